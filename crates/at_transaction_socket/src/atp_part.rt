@@ -11,7 +11,7 @@ use crate::requester_socket::REQUESTER_SOCKET;
 use crate::service_socket::SERVICE_SOCKET;
 use crate::zone_reading::ZoneReading;
 use crate::zone_socket::ZONE_SOCKET;
-use at_atp::{Requester, Responder};
+use at_atp::{Packet, Requester, Responder};
 use at_ddp::{Datagrams, Listed, Pascal};
 use at_event::{Report, Seat, Service, ZoneReport};
 use at_packet::AtpPacket;
@@ -32,6 +32,8 @@ pub struct AtpPart<A: Allocator = Global> {
     pub(crate) zone_responder: Responder<A>,
     // The requests that came to the service's socket.
     pub(crate) service_responder: Responder<A>,
+    // Room for the packet that has a page, kept from one answer to the next.
+    pub(crate) page: Vec<Packet<A>, A>,
 }
 
 impl<A: Allocator> Model for AtpPart<A> {
@@ -62,6 +64,7 @@ impl<A: Allocator + Copy> AtpPart<A> {
             requester: Requester::new(alloc),
             zone_responder: Responder::new(alloc),
             service_responder: Responder::new(alloc),
+            page: Vec::new(alloc),
         }
     }
 

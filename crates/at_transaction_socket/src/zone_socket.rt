@@ -85,7 +85,7 @@ impl<A: Allocator + Copy> AtpPart<A> {
         };
         match read_request(user) {
             Ok((which, start)) => serve_request(
-                self.alloc,
+                &mut self.page,
                 &mut self.zone_responder,
                 own,
                 packet,
@@ -100,7 +100,7 @@ impl<A: Allocator + Copy> AtpPart<A> {
 
 // Takes a request for the page from a place on.
 fn serve_request<A: Allocator + Copy>(
-    alloc: A,
+    room: &mut Vec<Packet<A>, A>,
     records: &mut Responder<A>,
     own: Address,
     packet: &Incoming<'_>,
@@ -114,13 +114,13 @@ fn serve_request<A: Allocator + Copy>(
         (record a { zone_responder = records.new }) out.new.items }
     ensures not_asked { is_asked result ≡ false }
 {
-    match hear(alloc, records, own, packet, out) {
+    match hear(*room.allocator(), records, own, packet, out) {
         Err(fault) => refused(fault.number()),
         Ok(Reception::Ignored) => Report::Ignored,
         Ok(Reception::Again(_)) => Report::Again,
         Ok(Reception::Released) => Report::Transactions(TransactionReport::Released),
         Ok(Reception::New(key)) => {
-            match serve(alloc, records, own, key, zones, start, out) {
+            match serve(room, records, own, key, zones, start, out) {
                 Ok(count) => Report::Zones(ZoneReport::Served(count)),
                 Err(AllocError) => Report::NoMemory,
             }
@@ -128,20 +128,21 @@ fn serve_request<A: Allocator + Copy>(
     }
 }
 
-// The answer to a request for the page from a place on: one packet.
-fn page_answer<A: Allocator + Copy>(
-    alloc: A,
+// Makes the answer to a request for the page from a place on: one packet, in the room of the answer before.
+fn make_answer<A: Allocator + Copy>(
+    room: &mut Vec<Packet<A>, A>,
     zones: &Zones<A>,
     start: u16,
-) -> Result<Vec<Packet<A>, A>, AllocError>
+) -> Result<(), AllocError>
     requires { 1 ≤ start }
-    ensures { IfOk result (λ packets. packets.items ≡ page_packet zones.now start ∷ []) }
+    ensures { OnOk result (room.new.items ≡ page_packet zones.now start ∷ []) }
 {
-    let mut packets = Vec::with_capacity(alloc, 1)?;
-    match page(alloc, zones, start) {
+    room.clear();
+    room.reserve(1)?;
+    match page(*room.allocator(), zones, start) {
         Ok(page) => {
-            packets.push(Packet::new(page.user, page.data_)).unwrap();
-            Ok(packets)
+            room.push(Packet::new(page.user, page.data_)).unwrap();
+            Ok(())
         }
         Err(_) => Err(AllocError),
     }
@@ -149,7 +150,7 @@ fn page_answer<A: Allocator + Copy>(
 
 // Answers a new zone request. If memory runs out, removes its record, as if the request had not come.
 fn serve<A: Allocator + Copy>(
-    alloc: A,
+    room: &mut Vec<Packet<A>, A>,
     records: &mut Responder<A>,
     own: Address,
     key: Key,
@@ -169,8 +170,8 @@ fn serve<A: Allocator + Copy>(
         (spelled_all (asked_for (find (is_key key) records.old) key (page_packet zones.now start ∷ []))))) }
     ensures nothing_sent { OnErr result (out.new.items ≡ out.old.items) }
 {
-    let answered = match page_answer(alloc, zones, start) {
-        Ok(packets) => answer(alloc, records, own, key, &packets, out),
+    let answered = match make_answer(room, zones, start) {
+        Ok(()) => answer(*room.allocator(), records, own, key, room, out),
         Err(AllocError) => Err(AtpFault::NoMemory),
     };
     match answered {
