@@ -126,7 +126,8 @@ module _ (A : Type 0) where
       go true (inl h) = told_none o _ h.outcome (told h.step)
       go true (inr h) = told_none o _ h.outcome refl
 
-  module _ (making : MakingLaw) (beginning : BeginningLaw A) (said : Reply A) (n : NodeState) (d : Datagram) (o : Outcome A NodeState) (draw : Draw)
+  module _ (making : MakingLaw) (beginning : BeginningLaw A) (said : Reply A) (n : NodeState) (d : Datagram)
+      (o : Outcome A NodeState) (draw : Draw)
       (draws : drawn_by o.report ≡ Some draw) where
     nothing : drawn_by o.report ≡ None → Drawing n d draw
     nothing none = let both : None ≡ Some draw = sym none ∙ draws in absurd (cc)

@@ -5,18 +5,11 @@ use Rattle.std.specs.Prelude.{◌↔◌, ◌≢◌}
 use Rattle.std.specs.List.{Contains}
 use Rattle.at_ddp.specs.Datagram.{Content as Datagram}
 use Rattle.at_ddp.specs.Protocols.{atp_kind, nbp_kind, adsp_kind}
-use Rattle.at_atp_frame.specs.Frames.{Content, Request, Response, Release, number_of}
 use Rattle.at_name_socket.specs.Carrying as names
 use Rattle.at_node.specs.declared.numbers.Draw.{Draw}
-use Rattle.at_transaction_socket.specs.AtpParts.{tid_of}
 use Rattle.at_node.specs.Numbers.{CarriesNumber, end_drawn}
 use Rattle.at_node.specs.declared.numbers.Draw.TheVariants.{Conn, Lookup, Tid}
 use Rattle.at_stream_socket.specs.Carrying as streams
-
-pub numbers_alike : (f : Content) → tid_of f ≡ number_of f
-numbers_alike (Request mask xo timer tid user bytes) = refl
-numbers_alike (Response place eom sts tid user bytes) = refl
-numbers_alike (Release tid) = refl
 
 -- nothing stands in a list of two nothings
 pub is_nowhere : {X : Type 0} (x : X) → ¬ Contains (None ∷ None ∷ []) (Some x)

@@ -54,6 +54,7 @@ returns-in-Unregister g c =
     let i = c.in-Unregister in
     let call : Call g.row.A.Denot = Names (Unregister i.object i.kind) in
     rw i.is
-    (subst (λ (n : NodeState). IsStep (called n call) n items c.unregister.result new items) c.self-in-Unregister.view_is
+    (subst (λ (n : NodeState). IsStep
+    (called n call) n items c.unregister.result new items) c.self-in-Unregister.view_is
     (step_over (with_names inside) inside inside.names refl items c.unregister.result c.unregister.new.self items
     (unregister_called inside.names i.object i.kind) (c.unregister.ensures items)))

@@ -32,7 +32,8 @@ returns-in-Other g c =
     let same = other_of c.args.body.now c.in-Other.field-0 c.in-Other.is in
     let none = other_kind c.args.body.now c.in-Other.field-0 c.in-Other.is c.requires in
     let mine : is_for n.seat d ≡ true = for_seat c.self.inside.seat n.seat (content c.datagram-datagram.result) d
-    c.is_for.result true c.is_for.ensures c.if-not-is_for.false (ap (λ (x : NodeState). x.seat) c.self.view_is) (c.datagram-datagram.ensures ∙ same) in
+    c.is_for.result true c.is_for.ensures c.if-not-is_for.false (ap (λ (x : NodeState). x.seat) c.self.view_is)
+    (c.datagram-datagram.ensures ∙ same) in
     let not_atp : (d.kind == atp_kind) ≡ false = ne_eqb d.kind atp_kind none.0 in
     let not_nbp : (d.kind == nbp_kind) ≡ false = ne_eqb d.kind nbp_kind none.1 in
     let not_adsp : (d.kind == adsp_kind) ≡ false = ne_eqb d.kind adsp_kind none.2 in (
@@ -49,7 +50,8 @@ returns-in-Atp g c =
     let d : Content = c.in-Atp.packet in
     let is = atp_of c.args.body.now d c.in-Atp.is c.requires in
     let mine : is_for n.seat d ≡ true = for_seat c.self.inside.seat n.seat (content c.datagram-datagram.result) d
-    c.is_for.result true c.is_for.ensures c.if-not-is_for.false (ap (λ (x : NodeState). x.seat) c.self.view_is) (c.datagram-datagram.ensures ∙ is.0) in
+    c.is_for.result true c.is_for.ensures c.if-not-is_for.false (ap (λ (x : NodeState). x.seat) c.self.view_is)
+    (c.datagram-datagram.ensures ∙ is.0) in
     let its : (d.kind == atp_kind) ≡ true = eq-eqb d.kind atp_kind is.1 in (
       r.0,
       subst (λ d. Comes (HearsIt r.0 n d) n c.args.out.now.items c.hear_atp.result c.hear_atp.new.self
@@ -82,7 +84,8 @@ returns-in-Nbp g c =
     let is = nbp_of c.args.body.now d c.in-Nbp.is c.requires in
     let before = c.args.out.now.items in
     let after = h.new.out.items in
-    let mine : is_for inside.seat d ≡ true = for_seat c.self.inside.seat inside.seat (content c.datagram-datagram.result) d
+    let mine : is_for inside.seat d ≡ true = for_seat c.self.inside.seat inside.seat
+    (content c.datagram-datagram.result) d
     c.is_for.result true c.is_for.ensures c.if-not-is_for.false refl (c.datagram-datagram.ensures ∙ is.0) in
     let not_atp : (d.kind == atp_kind) ≡ false = ne_eqb d.kind atp_kind
     (λ e. let both : nbp_kind ≡ atp_kind = sym is.1 ∙ e in absurd (cc)) in
@@ -120,7 +123,8 @@ returns-in-Adsp g c =
     let is = adsp_of c.args.body.now d c.in-Adsp.is c.requires in
     let before = c.args.out.now.items in
     let after = h.new.out.items in
-    let mine : is_for inside.seat d ≡ true = for_seat c.self.inside.seat inside.seat (content c.datagram-datagram.result) d
+    let mine : is_for inside.seat d ≡ true = for_seat c.self.inside.seat inside.seat
+    (content c.datagram-datagram.result) d
     c.is_for.result true c.is_for.ensures c.if-not-is_for.false refl (c.datagram-datagram.ensures ∙ is.0) in
     let not_atp : (d.kind == atp_kind) ≡ false = ne_eqb d.kind atp_kind
     (λ e. let both : adsp_kind ≡ atp_kind = sym is.1 ∙ e in absurd (cc)) in

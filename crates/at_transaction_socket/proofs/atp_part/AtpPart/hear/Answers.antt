@@ -37,7 +37,8 @@ for_nobody a socket x y z = rw (ne_eqb socket 128 x, ne_eqb socket 129 y, ne_eqb
 pub returns-clause-heard : goal.returns-clause-heard
 returns-clause-heard g c =
     let d = c.args.packet.now in
-    let socket : d.to.socket ≡ c.datagram-datagram.result.to.socket = ap (λ (d : Content). d.to.socket) (sym c.datagram-datagram.ensures) in (
+    let socket : d.to.socket ≡ c.datagram-datagram.result.to.socket = ap (λ (d : Content). d.to.socket)
+    (sym c.datagram-datagram.ensures) in (
       Later,
       comes_ignored (HearsAtp Later c.args.seat c.args.self.now d) c.args.self.now c.args.out.now.items
           (rw (for_nobody c.args.self.now d.to.socket (λ is. c.if-datagram.false (sym socket ∙ is))
@@ -49,7 +50,8 @@ returns-clause-heard g c =
 pub returns-then-datagram-clause-heard : goal.returns-then-datagram-clause-heard
 returns-then-datagram-clause-heard g c =
     let d = c.args.packet.now in
-    let socket : d.to.socket ≡ c.datagram-datagram.result.to.socket = ap (λ (d : Content). d.to.socket) (sym c.datagram-datagram.ensures) in (
+    let socket : d.to.socket ≡ c.datagram-datagram.result.to.socket = ap (λ (d : Content). d.to.socket)
+    (sym c.datagram-datagram.ensures) in (
       Later,
       subst (λ socket. Comes (HearsAt Later c.args.seat c.args.self.now d socket)
           c.args.self.now c.args.out.now.items c.hear_response.result c.hear_response.new.self
@@ -63,7 +65,8 @@ pub returns-then-datagram-2-clause-heard : goal.returns-then-datagram-2-clause-h
 returns-then-datagram-2-clause-heard g c =
     let r = c.hear_request.ensures in
     let d = c.args.packet.now in
-    let socket : d.to.socket ≡ c.datagram-datagram.result.to.socket = ap (λ (d : Content). d.to.socket) (sym c.datagram-datagram.ensures) in (
+    let socket : d.to.socket ≡ c.datagram-datagram.result.to.socket = ap (λ (d : Content). d.to.socket)
+    (sym c.datagram-datagram.ensures) in (
       r.0,
       subst (λ socket. Comes (HearsAt r.0 c.args.seat c.args.self.now d socket)
           c.args.self.now c.args.out.now.items c.hear_request.result c.hear_request.new.self
@@ -75,7 +78,8 @@ returns-then-datagram-2-clause-heard g c =
 pub returns-then-datagram-eq-ZONE_SOCKET-clause-heard : goal.returns-then-datagram-eq-ZONE_SOCKET-clause-heard
 returns-then-datagram-eq-ZONE_SOCKET-clause-heard g c =
     let d = c.args.packet.now in
-    let socket : d.to.socket ≡ c.datagram-datagram.result.to.socket = ap (λ (d : Content). d.to.socket) (sym c.datagram-datagram.ensures) in (
+    let socket : d.to.socket ≡ c.datagram-datagram.result.to.socket = ap (λ (d : Content). d.to.socket)
+    (sym c.datagram-datagram.ensures) in (
       Later,
       subst (λ socket. Comes (HearsAt Later c.args.seat c.args.self.now d socket)
           c.args.self.now c.args.out.now.items c.hear_zone_request.result c.hear_zone_request.new.self
