@@ -4,18 +4,21 @@ use Rattle.std.specs.Prelude.{Option, codes}
 use Rattle.std.specs.List.{AllZip}
 use Rattle.std.specs.Str.{bytes_eq}
 use Rattle.at_adsp_end.specs.declared.item.Item.{Item}
-use Rattle.at_event.specs.declared.event.Call.{Call}
-use Rattle.at_event.specs.declared.event.Call.TheVariants as call
-use Rattle.at_event.specs.declared.calls.NameCall.TheVariants as name
-use Rattle.at_event.specs.declared.calls.SessionCall.TheVariants as session
-use Rattle.at_event.specs.declared.calls.StreamCall.TheVariants as stream
-use Rattle.at_event.specs.declared.calls.TransactionCall.TheVariants as transaction
-use Rattle.at_event.specs.declared.calls.ZoneCall.TheVariants as zone
+use Rattle.at_event.specs.declared.Call.{Call}
+use Rattle.at_event.specs.declared.Call.TheVariants as call
+use Rattle.at_event.specs.declared.names.NameCall.TheVariants as name
+use Rattle.at_event.specs.declared.session.SessionCall.TheVariants as session
+use Rattle.at_event.specs.declared.streams.StreamCall.TheVariants as stream
+use Rattle.at_event.specs.declared.transactions.TransactionCall.TheVariants as transaction
+use Rattle.at_event.specs.declared.zones.ZoneCall.TheVariants as zone
 use Rattle.at_zip.specs.declared.request.Which.TheVariants as which
 use Rattle.at_faults.specs.declared.fault.LineFault.{LineFault}
 use Rattle.at_faults.specs.declared.fault.LineFault.TheVariants.{NoMemory, Unlawful}
-use Rattle.at_call_words.specs.Calls.{AskSays, FindSays, IsMode, IsSwitch, IsWanted, SaysPlain, SocketSays}
-use Rattle.at_call_words.specs.Calls.{WriteSays}
+use Rattle.at_call_words.specs.Calls.Transactions.{AskSays, IsMode, IsWanted}
+use Rattle.at_call_words.specs.Calls.Names.{FindSays, SocketSays}
+use Rattle.at_call_words.specs.Calls.Streams.{IsSwitch}
+use Rattle.at_call_words.specs.Calls.{SaysPlain}
+use Rattle.at_call_words.specs.Calls.Streams.{WriteSays}
 use Rattle.at_call_words.specs.Readings.{IsFoundInMemory}
 use Rattle.at_call_words.specs.Words.{One, Two}
 use Rattle.at_call_words.proofs.WordLemmas.{told_on}

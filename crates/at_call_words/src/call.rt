@@ -1,22 +1,30 @@
-//! A call, as words.
-ghost use Rattle.std.specs.Prelude.{◌≡◌, codes, IfErr, IfOk};
-ghost use Rattle.at_call_words.specs.Calls.{AreAnyCall, AreCall, AreCallBy, IsHere, SaysPlain, list_word};
+//! A call, as words. A protocol has its words in files below this one.
+ghost use Rattle.std.specs.Prelude.{IfOk};
+ghost use Rattle.at_call_words.specs.Calls.{AreAnyCall, AreCall, AreCallBy, IsHere, SaysPlain};
 ghost use Rattle.at_call_words.specs.Readings.{IsFoundInMemory};
 ghost use Rattle.at_call_words.specs.Requesters.{Names};
 ghost use Rattle.at_words.specs.Words.{words_of};
 
-use crate::answer_words::answer;
-use crate::ask_words::ask;
-use crate::name_words::{claim, find, finish, register, unregister};
+use crate::call::answers::answer;
+use crate::call::asks::ask;
+use crate::call::names::{claim_call, find_call, finish_call, register_call, unregister_call};
+use crate::call::session::{open_call, pick_call};
+use crate::call::streams::{close_call, connect_call, listen_call, read_call, reset_call, write};
+use crate::call::tables::{set_zones, zones};
 use crate::requester::Requesters;
-use crate::session_words::{open, pick};
-use crate::stream_words::{close, connect, listen, read, reset, write};
-use crate::table_words::set_zones;
-use at_event::{Call, ZoneCall};
+use at_event::Call;
 use at_faults::{LineFault, Rule};
 use at_words::{Words, is_word};
 use at_zip::Which;
 use std::alloc::Allocator;
+
+mod answers;
+mod asks;
+mod items;
+mod names;
+mod session;
+mod streams;
+mod tables;
 
 /// Reads a call: its word, and what the words after it say. Unlawful if the words say no call. A requester is named by
 /// its node and socket, and is on network `net`.
@@ -122,84 +130,4 @@ fn said_by<A: Allocator + Copy>(
         return close_call(words);
     }
     Err(LineFault::Unlawful(Rule::Call))
-}
-
-fn zones<A: Allocator>(which: Which, rule: Rule, words: Words<'_>) -> Result<Call<A>, LineFault>
-    ensures said { IsFoundInMemory result (SaysPlain (list_word which) (words_of words.entry.rest.now)) }
-    ensures rule { IfErr result (λ fault. fault ≡ LineFault.Unlawful rule) }
-{
-    words.end().ok_or(LineFault::Unlawful(rule))?;
-    Ok(Call::Zones(ZoneCall::Read { which }))
-}
-
-fn pick_call<A: Allocator>(words: Words<'_>) -> Result<Call<A>, LineFault>
-    ensures { IsFoundInMemory result (SaysPlain (codes "pick") (words_of words.entry.rest.now)) }
-{
-    pick(words).ok_or(LineFault::Unlawful(Rule::Pick))
-}
-
-fn find_call<A: Allocator>(words: Words<'_>) -> Result<Call<A>, LineFault>
-    ensures { IsFoundInMemory result (SaysPlain (codes "find") (words_of words.entry.rest.now)) }
-{
-    find(words).ok_or(LineFault::Unlawful(Rule::Find))
-}
-
-fn claim_call<A: Allocator>(words: Words<'_>) -> Result<Call<A>, LineFault>
-    ensures { IsFoundInMemory result (SaysPlain (codes "claim") (words_of words.entry.rest.now)) }
-{
-    claim(words).ok_or(LineFault::Unlawful(Rule::Claim))
-}
-
-fn finish_call<A: Allocator>(words: Words<'_>) -> Result<Call<A>, LineFault>
-    ensures { IsFoundInMemory result (SaysPlain (codes "finish") (words_of words.entry.rest.now)) }
-{
-    finish(words).ok_or(LineFault::Unlawful(Rule::Finish))
-}
-
-fn register_call<A: Allocator>(words: Words<'_>) -> Result<Call<A>, LineFault>
-    ensures { IsFoundInMemory result (SaysPlain (codes "register") (words_of words.entry.rest.now)) }
-{
-    register(words).ok_or(LineFault::Unlawful(Rule::Register))
-}
-
-fn unregister_call<A: Allocator>(words: Words<'_>) -> Result<Call<A>, LineFault>
-    ensures { IsFoundInMemory result (SaysPlain (codes "unregister") (words_of words.entry.rest.now)) }
-{
-    unregister(words).ok_or(LineFault::Unlawful(Rule::Unregister))
-}
-
-fn open_call<A: Allocator>(words: Words<'_>) -> Result<Call<A>, LineFault>
-    ensures { IsFoundInMemory result (SaysPlain (codes "open") (words_of words.entry.rest.now)) }
-{
-    open(words).ok_or(LineFault::Unlawful(Rule::Open))
-}
-
-fn listen_call<A: Allocator>(words: Words<'_>) -> Result<Call<A>, LineFault>
-    ensures { IsFoundInMemory result (SaysPlain (codes "listen") (words_of words.entry.rest.now)) }
-{
-    listen(words).ok_or(LineFault::Unlawful(Rule::Listen))
-}
-
-fn connect_call<A: Allocator>(words: Words<'_>) -> Result<Call<A>, LineFault>
-    ensures { IsFoundInMemory result (SaysPlain (codes "connect") (words_of words.entry.rest.now)) }
-{
-    connect(words).ok_or(LineFault::Unlawful(Rule::Connect))
-}
-
-fn read_call<A: Allocator>(words: Words<'_>) -> Result<Call<A>, LineFault>
-    ensures { IsFoundInMemory result (SaysPlain (codes "read") (words_of words.entry.rest.now)) }
-{
-    read(words).ok_or(LineFault::Unlawful(Rule::Read))
-}
-
-fn reset_call<A: Allocator>(words: Words<'_>) -> Result<Call<A>, LineFault>
-    ensures { IsFoundInMemory result (SaysPlain (codes "reset") (words_of words.entry.rest.now)) }
-{
-    reset(words).ok_or(LineFault::Unlawful(Rule::Reset))
-}
-
-fn close_call<A: Allocator>(words: Words<'_>) -> Result<Call<A>, LineFault>
-    ensures { IsFoundInMemory result (SaysPlain (codes "close") (words_of words.entry.rest.now)) }
-{
-    close(words).ok_or(LineFault::Unlawful(Rule::Close))
 }

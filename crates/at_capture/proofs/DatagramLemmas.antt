@@ -10,7 +10,7 @@ use Rattle.at_frames.specs.Short.{BeginsWithShort}
 use Rattle.at_print.specs.Papers.{Page}
 use Rattle.at_print.specs.declared.status.Status.{Status}
 use Rattle.at_print.specs.declared.status.Status.TheVariants.{Done, Failed}
-use Rattle.at_show.specs.Shown.{IsReadable}
+use Rattle.at_show.specs.Data.{IsReadable}
 use Rattle.at_show.specs.Told.{TellsWhy}
 
 -- the datagram with which the bytes begin can be read, if it is the only one

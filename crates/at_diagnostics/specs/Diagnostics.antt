@@ -1,11 +1,12 @@
 -- What is known of a writer of reasons.
 use Rattle.std.specs.Prelude.{◌≡◌, ◌≢◌, ◌↔◌, ◌⊎◌, ℕ, Bool, List, Some}
-use Rattle.at_event.specs.declared.report.Report.{Report}
-use Rattle.at_event.specs.declared.report.Report.TheVariants.{Refused}
+use Rattle.at_event.specs.declared.Report.{Report}
+use Rattle.at_event.specs.declared.Report.TheVariants.{Refused}
 use Rattle.at_print.specs.Papers.{Page}
 use Rattle.at_print.specs.Printers.{HasFailed, Prints}
 use Rattle.at_print.specs.declared.printer.Printer.{Printer}
-use Rattle.at_steps.specs.Safety.{Reason, number_of}
+use Rattle.at_event.specs.declared.Reason.{Reason}
+use Rattle.at_event.specs.Kinds.{number_of}
 use Rattle.at_diagnostics.specs.Lines.{IsOneLine, refusal_told, stop_told, unwritten_told}
 use Rattle.at_diagnostics.specs.NumberSets.{HasNumber}
 use Rattle.at_diagnostics.specs.declared.diagnostics.Diagnostics.{Diagnostics}

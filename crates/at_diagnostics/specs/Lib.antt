@@ -1,6 +1,5 @@
 pub mod Diagnostics
 pub mod Lines
 pub mod NumberSets
-pub mod Reasons
 pub mod Stops
 pub mod Unopened

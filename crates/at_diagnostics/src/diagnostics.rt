@@ -6,14 +6,14 @@ ghost use Rattle.at_diagnostics.specs.Lines.{IsOneLine, cable_named, cable_told,
 ghost use Rattle.at_diagnostics.specs.Lines.{file_told, line_named, line_told, note_told, place_named, reason_told};
 ghost use Rattle.at_diagnostics.specs.Lines.{refusal_named, refusal_told, stopped_told, text_told, undriven_told};
 ghost use Rattle.at_print.specs.Printers.{HasFailed, Prints};
-ghost use Rattle.at_steps.specs.Safety.{number_of, Reason as Why};
+ghost use Rattle.at_event.specs.Kinds.{number_of};
+ghost use Rattle.at_event.specs.declared.Reason.{Reason as Why};
 
 use crate::number_set::NumberSet;
-use crate::reason::Reason;
 use crate::sentence::{reason_of, sentence_of, unopened_of};
 use crate::stop::{Stop, refusal_of};
 use at_cable::CableFault;
-use at_event::Report;
+use at_event::{Reason, Report};
 use at_faults::Fault;
 use at_print::{Paper, Part, Printer};
 use std::alloc::Allocator;

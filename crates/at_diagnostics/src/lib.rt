@@ -4,11 +4,9 @@
 mod diagnostics;
 mod input;
 mod number_set;
-mod reason;
 mod sentence;
 mod stop;
 
 pub use diagnostics::Diagnostics;
 pub use input::{end_unopened, tell_input};
-pub use reason::Reason;
 pub use stop::{Stop, write_fault, write_stop};

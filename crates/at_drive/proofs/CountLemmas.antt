@@ -6,7 +6,7 @@ use Rattle.std.proofs.lemmas.List.{length-append}
 use Rattle.at_cable.specs.Calls.{IsCounted, last_count}
 use Rattle.at_cable.specs.declared.fault.CableFault.{CableFault}
 use Rattle.at_ddp.specs.Datagrams.{Posted}
-use Rattle.at_event.specs.declared.report.Report.{Report}
+use Rattle.at_event.specs.declared.Report.{Report}
 use Rattle.at_node.specs.Nodes.{NodeState}
 use Rattle.at_steps.specs.Safety.{Place}
 use Rattle.at_drive.specs.Arrivals.{Came}

@@ -5,11 +5,12 @@ use Rattle.std.proofs.lemmas.Bool.{true≢false, false≢true}
 use Rattle.std.proofs.lemmas.List.{length-map}
 use Rattle.std.specs.Prelude.{MatchBool}
 use Rattle.at_ddp.specs.Datagrams.{Posted}
-use Rattle.at_event.specs.Outcomes.{Comes, Exactly, IsStep, Outcome, posted, takes_memory, wants_memory}
-use Rattle.at_event.specs.declared.event.Call.{Call}
-use Rattle.at_event.specs.declared.event.Timer.{Timer}
-use Rattle.at_event.specs.declared.report.Report.{Report}
-use Rattle.at_event.specs.declared.report.Report.TheVariants as report
+use Rattle.at_event.specs.Outcomes.{Comes, Exactly, IsStep, Outcome, posted, wants_memory}
+use Rattle.at_event.specs.Kinds.{takes_memory}
+use Rattle.at_event.specs.declared.Call.{Call}
+use Rattle.at_event.specs.declared.Timer.{Timer}
+use Rattle.at_event.specs.declared.Report.{Report}
+use Rattle.at_event.specs.declared.Report.TheVariants as report
 use Rattle.at_event.specs.declared.service.Reply.{Reply}
 use Rattle.at_node.specs.Hearing.{Hears}
 use Rattle.at_node.specs.Limits.{IsWithin}

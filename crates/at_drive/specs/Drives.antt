@@ -6,7 +6,7 @@ use Rattle.at_cable.specs.declared.fault.CableFault.{CableFault}
 use Rattle.at_ddp.specs.Datagrams.{Datagrams, Posted}
 use Rattle.at_ddp.specs.Tables.{replaced}
 use Rattle.at_event.specs.Outcomes.{IsStep}
-use Rattle.at_event.specs.declared.report.Report.{Report}
+use Rattle.at_event.specs.declared.Report.{Report}
 use Rattle.at_node.specs.Nodes.{NodeState, called, timed}
 use Rattle.at_setup.specs.declared.setup.Setup.{Setup}
 use Rattle.at_nodes.specs.Openings.{opening_node}

@@ -1,7 +1,7 @@
 -- The log of a drive, as it grows.
 use Rattle.std.specs.Prelude.{◌<◌, List, [], ◌∷◌, ◌++◌, Option, Some, None, vec_len, vec_capacity}
 use Rattle.at_ddp.specs.Datagrams.{Datagrams}
-use Rattle.at_event.specs.declared.report.Report.{Report}
+use Rattle.at_event.specs.declared.Report.{Report}
 use Rattle.at_drive.specs.Arrivals.{Came}
 use Rattle.at_drive.specs.Drives.{Logged}
 use Rattle.at_drive.specs.declared.log.Log.{Log}

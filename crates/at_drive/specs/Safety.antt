@@ -2,8 +2,8 @@
 -- A number that is told is that of a fault. The node keeps to its limits, and sends no more than 131,070 datagrams.
 use Rattle.std.specs.Prelude.{◌≡◌, ℕ, ◌≤◌, List, [], length, Some}
 use Rattle.at_ddp.specs.Datagrams.{Posted}
-use Rattle.at_event.specs.declared.report.Report.{Report}
-use Rattle.at_event.specs.declared.report.Report.TheVariants as report
+use Rattle.at_event.specs.declared.Report.{Report}
+use Rattle.at_event.specs.declared.Report.TheVariants as report
 use Rattle.at_node.specs.Limits.{IsWithin}
 use Rattle.at_node.specs.Nodes.{NodeState}
 use Rattle.at_node.specs.declared.numbers.Input.{Input}

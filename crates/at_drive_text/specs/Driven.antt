@@ -7,7 +7,7 @@ use Rattle.std.specs.Fmt.{decimal}
 use Rattle.std.specs.List.{All, flat_map}
 use Rattle.at_cable.specs.declared.fault.CableFault.{CableFault}
 use Rattle.at_ddp.specs.Datagrams.{Datagrams, Posted}
-use Rattle.at_event.specs.declared.report.Report.{Report}
+use Rattle.at_event.specs.declared.Report.{Report}
 use Rattle.at_setup.specs.declared.setup.Setup.{Setup}
 use Rattle.at_drive.specs.Drives.{Driven as Nodes, Drives, IsLeft, Logged, no_log, opening_nodes_of, with_log}
 use Rattle.at_drive.specs.Steps.{has_all}

@@ -6,7 +6,7 @@ use Rattle.at_diagnostics.specs.Lines.{cable_told, undriven_told}
 use Rattle.at_diagnostics.specs.Stops.{stop_of}
 use Rattle.at_diagnostics.specs.declared.diagnostics.Diagnostics.{Diagnostics}
 use Rattle.at_drive.specs.Drives.{Logged}
-use Rattle.at_event.specs.declared.report.Report.{Report}
+use Rattle.at_event.specs.declared.Report.{Report}
 use Rattle.at_drive_text.specs.declared.ending.Ending.{Ending}
 use Rattle.at_drive_text.specs.declared.ending.Ending.TheVariants as ending
 use Rattle.at_print.specs.Papers.{Page}

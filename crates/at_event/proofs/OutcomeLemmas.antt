@@ -4,9 +4,10 @@ use Rattle.std.proofs.Common.{◌≡◌, ℕ, Bool, true, false, List, Option, S
 use Rattle.std.specs.Prelude.{MatchBool, IfSome, OnOk, IsOk}
 use Rattle.std.proofs.lemmas.List.{append-nil}
 use Rattle.at_ddp.specs.Datagrams.{Posted}
-use Rattle.at_event.specs.declared.report.Report.{Report}
-use Rattle.at_event.specs.declared.report.Report.TheVariants.{Ignored, Refused}
-use Rattle.at_event.specs.Outcomes.{wants_memory, takes_memory, refused_as, Outcome, Over, over, idle, Exactly, IsStep}
+use Rattle.at_event.specs.declared.Report.{Report}
+use Rattle.at_event.specs.declared.Report.TheVariants.{Ignored, Refused}
+use Rattle.at_event.specs.Kinds.{takes_memory}
+use Rattle.at_event.specs.Outcomes.{wants_memory, refused_as, Outcome, Over, over, idle, Exactly, IsStep}
 use Rattle.at_event.specs.Outcomes.{Comes}
 
 -- ---- what a clause says of a result

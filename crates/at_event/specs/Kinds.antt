@@ -1,11 +1,30 @@
--- Of which protocol a call, a timer and a report are.
-use Rattle.at_event.specs.declared.event.Call.{Call}
-use Rattle.at_event.specs.declared.event.Call.TheVariants.{Transactions, Zones, Names, Streams}
-use Rattle.at_event.specs.declared.event.Call.TheVariants as protocol
-use Rattle.at_event.specs.declared.report.Report.{Report}
-use Rattle.at_event.specs.declared.report.Report.TheVariants as report
-use Rattle.at_event.specs.declared.event.Timer.{Timer}
-use Rattle.at_event.specs.declared.event.Timer.TheVariants as timer
+-- What is known of calls, timers, reports and refusals by their protocols, a row a protocol.
+use Rattle.std.specs.Prelude.{ℕ, Bool, true, false, Option, Some}
+use Rattle.at_ddp.specs.Fault as ddp
+use Rattle.at_atp_frame.specs.Fault as atp
+use Rattle.at_nbp.specs.Fault as nbp
+use Rattle.at_zip.specs.Fault as zip
+use Rattle.at_adsp_frame.specs.Fault as adsp
+use Rattle.at_adsp_end.specs.Fault as ends
+use Rattle.at_event.specs.Faults as nodes
+use Rattle.at_event.specs.Kinds.Names.{IsNameCall, names_take_memory}
+use Rattle.at_event.specs.Kinds.Sessions.{IsSessionCall}
+use Rattle.at_event.specs.Kinds.Streams.{IsStreamCall, streams_take_memory}
+use Rattle.at_event.specs.Kinds.Transactions.{IsTransactionCall, transactions_take_memory}
+use Rattle.at_event.specs.Kinds.Zones.{IsZoneCall, zones_take_memory}
+use Rattle.at_event.specs.declared.Call.{Call}
+use Rattle.at_event.specs.declared.Call.TheVariants as call
+use Rattle.at_event.specs.declared.Reason.{Reason}
+use Rattle.at_event.specs.declared.Reason.TheVariants as reason
+use Rattle.at_event.specs.declared.Report.{Report}
+use Rattle.at_event.specs.declared.Report.TheVariants as report
+use Rattle.at_event.specs.declared.Timer.{Timer}
+use Rattle.at_event.specs.declared.Timer.TheVariants as timer
+pub mod Names
+pub mod Sessions
+pub mod Streams
+pub mod Transactions
+pub mod Zones
 
 -- the parts of a node, its user's session, and nobody
 pub data Kind : Type 0 where
@@ -16,11 +35,11 @@ pub data Kind : Type 0 where
   Adsp : Kind
 
 abbrev pub kind_of_call : {A : Type 0} → Call A → Kind
-kind_of_call (Transactions call) = Atp
-kind_of_call (Zones call) = Atp
-kind_of_call (Names call) = Nbp
-kind_of_call (Streams call) = Adsp
-kind_of_call (protocol.Session call) = Session
+kind_of_call (call.Transactions it) = Atp
+kind_of_call (call.Zones it) = Atp
+kind_of_call (call.Names it) = Nbp
+kind_of_call (call.Streams it) = Adsp
+kind_of_call (call.Session it) = Session
 
 abbrev pub kind_of_timer : Timer → Kind
 kind_of_timer (timer.Transactions it) = Atp
@@ -35,3 +54,33 @@ reporter_of (report.Zones it) = Atp
 reporter_of (report.Names it) = Nbp
 reporter_of (report.Streams it) = Adsp
 reporter_of other = Nobody
+
+-- the parts of a call are in the range of their types
+abbrev pub IsCall : {A : Type 0} → Call A → Type 0
+IsCall (call.Transactions it) = IsTransactionCall it
+IsCall (call.Zones it) = IsZoneCall it
+IsCall (call.Names it) = IsNameCall it
+IsCall (call.Streams it) = IsStreamCall it
+IsCall (call.Session it) = IsSessionCall it
+
+-- can an event with this report run out of memory? A refusal cannot, and neither can the picking of a zone. What is
+-- ignored has no effect, and takes no memory either.
+abbrev pub takes_memory : {A : Type 0} → Report A → Bool
+takes_memory (report.Refused number) = false
+takes_memory report.Ignored = false
+takes_memory report.Picked = false
+takes_memory (report.Transactions it) = transactions_take_memory it
+takes_memory (report.Zones it) = zones_take_memory it
+takes_memory (report.Names it) = names_take_memory it
+takes_memory (report.Streams it) = streams_take_memory it
+takes_memory other = true
+
+-- the number of a reason, by which it is reported; want of memory has none
+abbrev pub number_of : Reason → Option ℕ
+number_of (reason.OfDatagrams fault) = ddp.number_of fault
+number_of (reason.OfTransactions fault) = atp.number_of fault
+number_of (reason.OfNames fault) = nbp.number_of fault
+number_of (reason.OfZones fault) = zip.number_of fault
+number_of (reason.OfSegments fault) = adsp.number_of fault
+number_of (reason.OfStreams fault) = ends.number_of fault
+number_of (reason.OfNodes fault) = Some (nodes.number_of fault)

@@ -3,12 +3,9 @@ use Rattle.std.specs.Prelude.{MatchBool, ◌≡◌, ℕ, Bool, true, false, List
 use Rattle.at_ddp.specs.Datagram.{canonical}
 use Rattle.at_ddp.specs.Datagrams.{Posted}
 use Rattle.at_ddp.specs.declared.address.Address.{Address}
-use Rattle.at_event.specs.declared.report.Report.{Report}
-use Rattle.at_event.specs.declared.report.Report.TheVariants as report
-use Rattle.at_event.specs.declared.reports.TransactionReport.TheVariants as atp_report
-use Rattle.at_event.specs.declared.reports.ZoneReport.TheVariants as zip_report
-use Rattle.at_event.specs.declared.reports.NameReport.TheVariants as nbp_report
-use Rattle.at_event.specs.declared.reports.StreamReport.TheVariants as adsp_report
+use Rattle.at_event.specs.Kinds.{takes_memory}
+use Rattle.at_event.specs.declared.Report.{Report}
+use Rattle.at_event.specs.declared.Report.TheVariants as report
 
 -- a datagram that a node sends
 pub record Outgoing : Type 0 where
@@ -50,20 +47,6 @@ Over {A} {S} f May o = (p : Outcome A S) × May p × (o ≡ over f p)
 
 abbrev pub Exactly : {A S : Type 0} → Outcome A S → List Posted → Report A → S → List Posted → Type 0
 Exactly o before r new after = (r ≡ o.report) × (new ≡ o.state) × (after ≡ before ++ map posted o.out)
-
--- can an event with this report run out of memory? A refusal cannot, and neither can the end of a transaction without
--- retries, of a record or of a name, the picking of a zone, or what sets whether an end listens. What is ignored has no
--- effect, and takes no memory either.
-abbrev pub takes_memory : {A : Type 0} → Report A → Bool
-takes_memory (report.Refused number) = false
-takes_memory report.Ignored = false
-takes_memory (report.Transactions (atp_report.Failed tid)) = false
-takes_memory (report.Transactions atp_report.Expired) = false
-takes_memory (report.Names nbp_report.Unregistered) = false
-takes_memory (report.Streams adsp_report.ListenSet) = false
-takes_memory report.Picked = false
-takes_memory (report.Zones zip_report.Unanswered) = false
-takes_memory other = true
 
 -- is it out of memory?
 abbrev pub wants_memory : {A : Type 0} → Report A → Bool

@@ -1,7 +1,12 @@
-//! Why a node itself refuses a call, with the number and the sentence of each refusal.
-ghost use Rattle.std.specs.Prelude.{◌≡◌};
+//! Why a node itself refuses a call, with the number and the sentence of each refusal. The faults of datagrams, by
+//! their numbers.
+ghost use Rattle.std.specs.Prelude.{◌≡◌, IfSome, IsSome, Some};
+ghost use Rattle.at_ddp.specs.Fault as datagrams;
+ghost use Rattle.at_ddp.specs.declared.fault.DdpFault.{DdpFault as DdpWhy};
 ghost use Rattle.at_event.specs.Faults.{number_of};
+ghost use Rattle.at_event.specs.declared.fault.NodeFault.{NodeFault as NodeWhy};
 
+use at_ddp::DdpFault;
 use thiserror::Error;
 
 /// Why a node itself refuses a call.
@@ -32,5 +37,34 @@ impl NodeFault {
             NodeFault::NotFound => 62,
             NodeFault::StillReading => 63,
         }
+    }
+}
+
+/// The fault of a datagram that has this number.
+pub(crate) fn datagram_fault(number: u8) -> Option<DdpFault>
+    ensures found { IfSome result (λ fault. datagrams.number_of fault ≡ Some number) }
+    ensures known { (fault : DdpWhy) → datagrams.number_of fault ≡ Some number → IsSome result }
+{
+    match number {
+        1 => Some(DdpFault::Short),
+        2 => Some(DdpFault::BadLength),
+        3 => Some(DdpFault::Truncated),
+        4 => Some(DdpFault::BadSum),
+        5 => Some(DdpFault::TooLong),
+        _ => None,
+    }
+}
+
+/// The fault of a node itself that has this number.
+pub(crate) fn node_fault(number: u8) -> Option<NodeFault>
+    ensures found { IfSome result (λ fault. number_of fault ≡ number) }
+    ensures known { (fault : NodeWhy) → number_of fault ≡ number → IsSome result }
+{
+    match number {
+        60 => Some(NodeFault::NoRouter),
+        61 => Some(NodeFault::ZoneNotListed),
+        62 => Some(NodeFault::NotFound),
+        63 => Some(NodeFault::StillReading),
+        _ => None,
     }
 }

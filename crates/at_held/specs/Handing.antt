@@ -3,7 +3,7 @@ use Rattle.std.specs.Prelude.{◌≡◌, ℕ, List, [], ◌∷◌, length, Optio
 use Rattle.std.specs.List.{flat_map}
 use Rattle.std.specs.declared.alloc.Global.{Global}
 use Rattle.at_ddp.specs.Datagrams.{Posted}
-use Rattle.at_event.specs.declared.report.Report.{Report}
+use Rattle.at_event.specs.declared.Report.{Report}
 use Rattle.at_held.specs.Held.{HeldState, refusal_in}
 use Rattle.at_held.specs.Rooms.{Fits, IsPlaced, IsTooLong, placed}
 use Rattle.at_held.specs.declared.withheld.Withheld.{Withheld}
@@ -11,7 +11,7 @@ use Rattle.at_held.specs.declared.withheld.Withheld.TheVariants as withheld
 use Rattle.at_node.specs.Nodes.{NodeState}
 use Rattle.at_node.specs.Timers.{timers_of}
 use Rattle.at_print.specs.Reports.{event_line_at}
-use Rattle.at_print.specs.Timers.{timer_line}
+use Rattle.at_print.specs.Reports.{timer_line}
 use Rattle.at_show.specs.Texts.{BytesText}
 
 -- the first datagram that waits is copied, with the node that it goes to, and the others go on waiting

@@ -3,8 +3,8 @@ use Rattle.std.specs.Prelude.{◌≡◌, ℕ, List, ◌∷◌, codes}
 use Rattle.std.specs.declared.alloc.Global.{Global}
 use Rattle.at_call_words.specs.Calls.{AreAnyCall}
 use Rattle.at_call_words.specs.Timers.{AreAnyTimer}
-use Rattle.at_event.specs.declared.event.Call.{Call}
-use Rattle.at_event.specs.declared.event.Timer.{Timer}
+use Rattle.at_event.specs.declared.Call.{Call}
+use Rattle.at_event.specs.declared.Timer.{Timer}
 use Rattle.at_words.specs.Words.{words_of}
 
 -- a call that the node's user makes, or a timer of the node that fires

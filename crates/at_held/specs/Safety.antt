@@ -2,8 +2,8 @@
 -- its number is that of a reason. No event sends more than 131,070 datagrams.
 use Rattle.std.specs.Prelude.{◌≡◌, ℕ, ◌+◌, ◌≤◌, length, Some}
 use Rattle.std.specs.declared.alloc.Global.{Global}
-use Rattle.at_event.specs.declared.report.Report.{Report}
-use Rattle.at_event.specs.declared.report.Report.TheVariants as report
+use Rattle.at_event.specs.declared.Report.{Report}
+use Rattle.at_event.specs.declared.Report.TheVariants as report
 use Rattle.at_held.specs.Held.{HeldState}
 use Rattle.at_steps.specs.Safety.{IsReason, Place, number_told}
 

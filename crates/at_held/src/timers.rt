@@ -4,7 +4,7 @@ ghost use Rattle.std.specs.List.{flat_map};
 ghost use Rattle.at_held.specs.Handing.{timer_lines};
 ghost use Rattle.at_node.specs.Timers.{timers_of};
 ghost use Rattle.at_print.specs.Printers.{Prints};
-ghost use Rattle.at_print.specs.Timers.{timer_line};
+ghost use Rattle.at_print.specs.Reports.{timer_line};
 
 use at_event::Timer;
 use at_node::Node;

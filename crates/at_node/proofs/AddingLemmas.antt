@@ -3,7 +3,7 @@ use Rattle.std.proofs.Common.{◌≡◌, ◌+◌, List, ◌++◌, length, Result
 use Rattle.std.proofs.Common.{sym, ap, subst, ◌∙◌, arith, append_assoc, length-append}
 use Rattle.std.specs.Prelude.{IsErr, OnErr, OnOk}
 use Rattle.std.proofs.lemmas.Bool.{true≢false}
-use Rattle.at_event.specs.declared.event.Timer.{Timer}
+use Rattle.at_event.specs.declared.Timer.{Timer}
 use Rattle.at_node.specs.Timers.{Adds}
 
 module _ {Z E : Type 0} where

@@ -7,8 +7,8 @@ use Rattle.at_ddp.specs.declared.datagram.Datagram.{Datagram}
 use Rattle.at_event.specs.Seats.{is_for_all, is_mine}
 use Rattle.at_event.specs.declared.seat.Seat.{Seat}
 use Rattle.at_packet.specs.Bodies.{IsBody, datagram_of}
-use Rattle.at_packet.specs.declared.body.Body.{Body}
-use Rattle.at_packet.specs.declared.body.Body.TheVariants as body
+use Rattle.at_packet.specs.declared.Body.{Body}
+use Rattle.at_packet.specs.declared.Body.TheVariants as body
 
 -- the datagram of a decoded one, whose protocol has this number
 abbrev pub IsOf : Body → Content → ℕ → Type 0

@@ -8,11 +8,11 @@ use Rattle.at_adsp_ends.specs.Tables.{IdsDiffer}
 use Rattle.at_atp_requester.specs.Requests.{Transaction, is_numbered}
 use Rattle.at_atp_responder.specs.Keys.{AreApart}
 use Rattle.at_atp_responder.specs.declared.reception.Key.{Key}
-use Rattle.at_event.specs.declared.event.Timer.{Timer}
-use Rattle.at_event.specs.declared.event.Timer.TheVariants as timer
-use Rattle.at_event.specs.declared.timers.TransactionTimer.TheVariants as atp_timer
-use Rattle.at_event.specs.declared.timers.NameTimer.TheVariants as nbp_timer
-use Rattle.at_event.specs.declared.timers.StreamTimer.TheVariants as adsp_timer
+use Rattle.at_event.specs.declared.Timer.{Timer}
+use Rattle.at_event.specs.declared.Timer.TheVariants as timer
+use Rattle.at_event.specs.declared.transactions.TransactionTimer.TheVariants as atp_timer
+use Rattle.at_event.specs.declared.names.NameTimer.TheVariants as nbp_timer
+use Rattle.at_event.specs.declared.streams.StreamTimer.TheVariants as adsp_timer
 use Rattle.at_nbp.specs.Lookups.{Search, has_id}
 use Rattle.at_node.specs.Nodes.{NodeState, timed}
 use Rattle.at_transaction_socket.specs.Responders.{records_at}

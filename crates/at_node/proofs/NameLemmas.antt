@@ -13,12 +13,13 @@ use Rattle.at_nbp.specs.declared.fault.NbpFault.TheVariants as faults
 use Rattle.at_name_socket.specs.NameSockets.{Hears as SocketHears, SocketState, names_of}
 use Rattle.at_name_socket.specs.declared.step.Heard.{Heard}
 use Rattle.at_name_socket.specs.declared.step.Heard.TheVariants as heard
-use Rattle.at_event.specs.declared.report.Report.{Report}
-use Rattle.at_event.specs.declared.report.Report.TheVariants.{Again, NoMemory}
+use Rattle.at_event.specs.declared.Report.{Report}
+use Rattle.at_event.specs.declared.Report.TheVariants.{Again, NoMemory}
 use Rattle.at_event.specs.declared.seat.Seat.{Seat}
 use Rattle.at_node.specs.NameCalls.{asked_again, sent_of}
 use Rattle.at_node.specs.NameHearing.{HearsName, HearsNbpFault, told_by}
-use Rattle.at_event.specs.Outcomes.{Comes, Exactly, Outcome, refused_as, takes_memory, wants_memory}
+use Rattle.at_event.specs.Outcomes.{Comes, Exactly, Outcome, refused_as, wants_memory}
+use Rattle.at_event.specs.Kinds.{takes_memory}
 use Rattle.at_event.proofs.OutcomeLemmas.{comes_refused, comes_with}
 use Rattle.at_event.proofs.PostLemmas.{posts}
 

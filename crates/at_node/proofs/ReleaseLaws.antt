@@ -11,9 +11,9 @@ use Rattle.at_atp_responder.specs.Records.{expiring_key}
 use Rattle.at_atp_responder.specs.declared.reception.Key.{Key}
 use Rattle.at_ddp.proofs.Octets.{same_address_itself, same_both}
 use Rattle.at_event.specs.Outcomes.{over}
-use Rattle.at_event.specs.declared.event.Timer.{Timer}
-use Rattle.at_event.specs.declared.event.Timer.TheVariants as timer
-use Rattle.at_event.specs.declared.timers.TransactionTimer.TheVariants as atp_timer
+use Rattle.at_event.specs.declared.Timer.{Timer}
+use Rattle.at_event.specs.declared.Timer.TheVariants as timer
+use Rattle.at_event.specs.declared.transactions.TransactionTimer.TheVariants as atp_timer
 use Rattle.at_node.specs.Nodes.{NodeState, timed, with_atp}
 use Rattle.at_transaction_socket.specs.Responders.{expired, records_at}
 use Rattle.at_node.specs.Timers.{Acts, release_of, releases}

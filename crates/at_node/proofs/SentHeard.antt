@@ -15,7 +15,7 @@ use Rattle.at_node.specs.Numbers.{Carries}
 use Rattle.at_node.specs.declared.numbers.Draw.TheVariants.{Tid}
 use Rattle.at_atp_frame.specs.declared.fault.AtpFault.{AtpFault}
 use Rattle.at_event.specs.declared.service.Reply.{Reply}
-use Rattle.at_event.specs.declared.report.Report.TheVariants.{Ignored}
+use Rattle.at_event.specs.declared.Report.TheVariants.{Ignored}
 use Rattle.at_event.specs.declared.seat.Seat.{Seat}
 use Rattle.at_transaction_socket.specs.AtpHearing.{AtpSocket, AtSocket, HearsAt, atp_socket}
 use Rattle.at_transaction_socket.specs.AtpParts.{AtpState}

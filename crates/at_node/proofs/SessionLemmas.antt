@@ -11,10 +11,11 @@ use Rattle.at_nbp.specs.declared.find.Find.{Find}
 use Rattle.at_name_socket.specs.NameSockets.{SocketState, claim_ended, claim_fault, ended, ending, fault_of, finds_told}
 use Rattle.at_name_socket.specs.NameSockets.{finish_fault, is_claim, taker, told_at_end}
 use Rattle.at_name_socket.specs.declared.claim.Claim.{Claim}
-use Rattle.at_event.specs.Outcomes.{Comes, Exactly, IsStep, Outcome, Through, refused_as, takes_memory, wants_memory}
-use Rattle.at_event.specs.declared.report.Report.{Report}
-use Rattle.at_event.specs.declared.report.Report.TheVariants as report
-use Rattle.at_event.specs.declared.reports.NameReport.TheVariants as nbp_report
+use Rattle.at_event.specs.Outcomes.{Comes, Exactly, IsStep, Outcome, Through, refused_as, wants_memory}
+use Rattle.at_event.specs.Kinds.{takes_memory}
+use Rattle.at_event.specs.declared.Report.{Report}
+use Rattle.at_event.specs.declared.Report.TheVariants as report
+use Rattle.at_event.specs.declared.names.NameReport.TheVariants as nbp_report
 use Rattle.at_session.specs.Sessions.{SessionState, finds_kept, list_kept}
 use Rattle.at_transaction_socket.specs.AtpParts.{AtpState}
 use Rattle.at_node.specs.NameCalls.{finish_called, finished_as, told_of}

@@ -22,7 +22,7 @@ use Rattle.at_adsp_ends.specs.Calls.{frees, heeding, ticked_at}
 use Rattle.at_adsp_ends.specs.Receiving.{settled}
 use Rattle.at_adsp_ends.specs.Tables.{IdsDiffer, has_id, freed}
 use Rattle.at_event.specs.Outcomes.{over}
-use Rattle.at_event.specs.declared.event.Timer.{Timer}
+use Rattle.at_event.specs.declared.Timer.{Timer}
 use Rattle.at_node.specs.Nodes.{NodeState, timed, with_streams}
 use Rattle.at_node.specs.Timers.{Acts, ticks, timer_of}
 use Rattle.at_node.proofs.MemberLemmas.{There, there_some, some_there, found_there, sole_found, without_differs}

@@ -6,10 +6,10 @@ use Rattle.std.proofs.lemmas.Bool.{true≢false, eq-eqb}
 use Rattle.at_ddp.specs.Tables.{without_first}
 use Rattle.at_atp_requester.specs.Requests.{Transaction, is_numbered, retried_with}
 use Rattle.at_event.specs.Outcomes.{over}
-use Rattle.at_event.specs.declared.event.Timer.{Timer}
-use Rattle.at_event.specs.declared.event.Timer.TheVariants as timer
-use Rattle.at_event.specs.declared.timers.TransactionTimer.TheVariants as atp_timer
-use Rattle.at_event.specs.declared.timers.NameTimer.TheVariants as nbp_timer
+use Rattle.at_event.specs.declared.Timer.{Timer}
+use Rattle.at_event.specs.declared.Timer.TheVariants as timer
+use Rattle.at_event.specs.declared.transactions.TransactionTimer.TheVariants as atp_timer
+use Rattle.at_event.specs.declared.names.NameTimer.TheVariants as nbp_timer
 use Rattle.at_nbp.specs.Lookups.{Search, has_id, search_of}
 use Rattle.at_node.specs.NameCalls.{asked_again}
 use Rattle.at_node.specs.Nodes.{NodeState, timed, with_atp, with_names}

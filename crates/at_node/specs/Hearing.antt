@@ -6,7 +6,7 @@ use Rattle.at_ddp.specs.declared.address.Address.{Address}
 use Rattle.at_ddp.specs.declared.fault.DdpFault.{DdpFault}
 use Rattle.at_ddp.specs.Protocols.{atp_kind, nbp_kind, adsp_kind}
 use Rattle.at_atp_frame.specs.Frames.{Content}
-use Rattle.at_event.specs.declared.report.Report.TheVariants as report
+use Rattle.at_event.specs.declared.Report.TheVariants as report
 use Rattle.at_event.specs.declared.service.Reply.{Reply}
 use Rattle.at_transaction_socket.specs.AtpHearing.{AtSocket, HearsAtp, atp_socket}
 use Rattle.at_node.specs.NameHearing.{HearsNames}

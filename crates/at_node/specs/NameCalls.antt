@@ -14,9 +14,9 @@ use Rattle.at_nbp.specs.declared.names.Registered.{Registered}
 use Rattle.at_name_socket.specs.NameSockets.{SocketState, any_pattern, claim_begun, finish, finish_fault, names_of}
 use Rattle.at_name_socket.specs.declared.step.Finished.{Finished}
 use Rattle.at_name_socket.specs.declared.step.Finished.TheVariants as finished
-use Rattle.at_event.specs.declared.report.Report.{Report}
-use Rattle.at_event.specs.declared.report.Report.TheVariants as report
-use Rattle.at_event.specs.declared.reports.NameReport.TheVariants as nbp_report
+use Rattle.at_event.specs.declared.Report.{Report}
+use Rattle.at_event.specs.declared.Report.TheVariants as report
+use Rattle.at_event.specs.declared.names.NameReport.TheVariants as nbp_report
 use Rattle.at_event.specs.declared.seat.Seat.{Seat}
 use Rattle.at_event.specs.Outcomes.{Outcome, Outgoing, idle, refused_as, sent_by}
 

@@ -7,9 +7,9 @@ use Rattle.at_nbp.specs.declared.fault.NbpFault.{NbpFault}
 use Rattle.at_name_socket.specs.NameSockets.{Hears as SocketHears, SocketState}
 use Rattle.at_name_socket.specs.declared.step.Heard.{Heard}
 use Rattle.at_name_socket.specs.declared.step.Heard.TheVariants as heard
-use Rattle.at_event.specs.declared.report.Report.{Report}
-use Rattle.at_event.specs.declared.report.Report.TheVariants as report
-use Rattle.at_event.specs.declared.reports.NameReport.TheVariants as nbp_report
+use Rattle.at_event.specs.declared.Report.{Report}
+use Rattle.at_event.specs.declared.Report.TheVariants as report
+use Rattle.at_event.specs.declared.names.NameReport.TheVariants as nbp_report
 use Rattle.at_event.specs.declared.seat.Seat.{Seat}
 use Rattle.at_node.specs.NameCalls.{sent_of}
 use Rattle.at_event.specs.Outcomes.{Outcome, idle}

@@ -8,23 +8,23 @@ use Rattle.at_name_socket.specs.NameSockets as names
 use Rattle.at_name_socket.specs.NameSockets.{SocketState}
 use Rattle.at_name_socket.specs.declared.neighbour.Neighbour.{Neighbour}
 use Rattle.at_zip.specs.Tables.{Tables}
-use Rattle.at_event.specs.declared.calls.NameCall.{NameCall}
-use Rattle.at_event.specs.declared.calls.NameCall.TheVariants.{Find, Claim, Finish, Register, Unregister}
-use Rattle.at_event.specs.declared.calls.SessionCall.{SessionCall}
-use Rattle.at_event.specs.declared.calls.SessionCall.TheVariants.{Pick}
-use Rattle.at_event.specs.declared.calls.StreamCall.{StreamCall}
-use Rattle.at_event.specs.declared.calls.StreamCall.TheVariants.{Open, Listen, Connect, Write, Read, Reset, Close}
-use Rattle.at_event.specs.declared.calls.TransactionCall.{TransactionCall}
-use Rattle.at_event.specs.declared.calls.TransactionCall.TheVariants.{Ask, Answer}
-use Rattle.at_event.specs.declared.calls.ZoneCall.{ZoneCall}
-use Rattle.at_event.specs.declared.calls.ZoneCall.TheVariants as zone
-use Rattle.at_event.specs.declared.event.Call.{Call}
-use Rattle.at_event.specs.declared.event.Call.TheVariants.{Transactions, Zones, Names, Streams, Session}
-use Rattle.at_event.specs.declared.event.Timer.{Timer}
-use Rattle.at_event.specs.declared.event.Timer.TheVariants as timer
-use Rattle.at_event.specs.declared.timers.TransactionTimer.TheVariants as atp_timer
-use Rattle.at_event.specs.declared.timers.NameTimer.TheVariants as nbp_timer
-use Rattle.at_event.specs.declared.timers.StreamTimer.TheVariants as adsp_timer
+use Rattle.at_event.specs.declared.names.NameCall.{NameCall}
+use Rattle.at_event.specs.declared.names.NameCall.TheVariants.{Find, Claim, Finish, Register, Unregister}
+use Rattle.at_event.specs.declared.session.SessionCall.{SessionCall}
+use Rattle.at_event.specs.declared.session.SessionCall.TheVariants.{Pick}
+use Rattle.at_event.specs.declared.streams.StreamCall.{StreamCall}
+use Rattle.at_event.specs.declared.streams.StreamCall.TheVariants.{Open, Listen, Connect, Write, Read, Reset, Close}
+use Rattle.at_event.specs.declared.transactions.TransactionCall.{TransactionCall}
+use Rattle.at_event.specs.declared.transactions.TransactionCall.TheVariants.{Ask, Answer}
+use Rattle.at_event.specs.declared.zones.ZoneCall.{ZoneCall}
+use Rattle.at_event.specs.declared.zones.ZoneCall.TheVariants as zone
+use Rattle.at_event.specs.declared.Call.{Call}
+use Rattle.at_event.specs.declared.Call.TheVariants.{Transactions, Zones, Names, Streams, Session}
+use Rattle.at_event.specs.declared.Timer.{Timer}
+use Rattle.at_event.specs.declared.Timer.TheVariants as timer
+use Rattle.at_event.specs.declared.transactions.TransactionTimer.TheVariants as atp_timer
+use Rattle.at_event.specs.declared.names.NameTimer.TheVariants as nbp_timer
+use Rattle.at_event.specs.declared.streams.StreamTimer.TheVariants as adsp_timer
 use Rattle.at_event.specs.declared.seat.Seat.{Seat}
 use Rattle.at_transaction_socket.specs.AtpParts as atp
 use Rattle.at_transaction_socket.specs.AtpParts.{AtpState}

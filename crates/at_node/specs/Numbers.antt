@@ -17,21 +17,21 @@ use Rattle.at_stream_socket.specs.Carrying as streams
 use Rattle.at_stream_socket.specs.Hearing.{Makes}
 use Rattle.at_event.specs.Outcomes.{Outcome}
 use Rattle.at_event.specs.Seats.{is_mine}
-use Rattle.at_event.specs.declared.calls.NameCall.{NameCall}
-use Rattle.at_event.specs.declared.calls.NameCall.TheVariants.{Find, Claim}
-use Rattle.at_event.specs.declared.calls.StreamCall.{StreamCall}
-use Rattle.at_event.specs.declared.calls.StreamCall.TheVariants.{Open, Connect}
-use Rattle.at_event.specs.declared.calls.TransactionCall.{TransactionCall}
-use Rattle.at_event.specs.declared.calls.TransactionCall.TheVariants.{Ask, Answer}
-use Rattle.at_event.specs.declared.calls.ZoneCall.{ZoneCall}
-use Rattle.at_event.specs.declared.calls.ZoneCall.TheVariants as zone
-use Rattle.at_event.specs.declared.event.Call.{Call}
-use Rattle.at_event.specs.declared.event.Call.TheVariants.{Transactions, Zones, Names, Streams, Session}
-use Rattle.at_event.specs.declared.report.Report.{Report}
-use Rattle.at_event.specs.declared.report.Report.TheVariants as report
-use Rattle.at_event.specs.declared.reports.TransactionReport.TheVariants as atp_report
-use Rattle.at_event.specs.declared.reports.NameReport.TheVariants as nbp_report
-use Rattle.at_event.specs.declared.reports.StreamReport.TheVariants as adsp_report
+use Rattle.at_event.specs.declared.names.NameCall.{NameCall}
+use Rattle.at_event.specs.declared.names.NameCall.TheVariants.{Find, Claim}
+use Rattle.at_event.specs.declared.streams.StreamCall.{StreamCall}
+use Rattle.at_event.specs.declared.streams.StreamCall.TheVariants.{Open, Connect}
+use Rattle.at_event.specs.declared.transactions.TransactionCall.{TransactionCall}
+use Rattle.at_event.specs.declared.transactions.TransactionCall.TheVariants.{Ask, Answer}
+use Rattle.at_event.specs.declared.zones.ZoneCall.{ZoneCall}
+use Rattle.at_event.specs.declared.zones.ZoneCall.TheVariants as zone
+use Rattle.at_event.specs.declared.Call.{Call}
+use Rattle.at_event.specs.declared.Call.TheVariants.{Transactions, Zones, Names, Streams, Session}
+use Rattle.at_event.specs.declared.Report.{Report}
+use Rattle.at_event.specs.declared.Report.TheVariants as report
+use Rattle.at_event.specs.declared.transactions.TransactionReport.TheVariants as atp_report
+use Rattle.at_event.specs.declared.names.NameReport.TheVariants as nbp_report
+use Rattle.at_event.specs.declared.streams.StreamReport.TheVariants as adsp_report
 use Rattle.at_event.specs.declared.service.Reply.{Reply}
 use Rattle.at_session.specs.Sessions.{address_at}
 use Rattle.at_transaction_socket.specs.Turning.{HasTurn}

@@ -5,7 +5,7 @@ use Rattle.at_ddp.specs.declared.address.Address.{Address}
 use Rattle.at_adsp_ends.specs.Tables.{EndTable}
 use Rattle.at_event.specs.Faults.{number_of}
 use Rattle.at_event.specs.Outcomes.{Outcome, idle}
-use Rattle.at_event.specs.declared.report.Report.TheVariants as report
+use Rattle.at_event.specs.declared.Report.TheVariants as report
 use Rattle.at_event.specs.declared.fault.NodeFault.TheVariants.{NotFound, ZoneNotListed}
 use Rattle.at_event.specs.declared.seat.Seat.{Seat}
 use Rattle.at_session.specs.Sessions.{SessionState, is_listed, picking}

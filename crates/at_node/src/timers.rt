@@ -3,7 +3,7 @@ ghost use Rattle.std.specs.Prelude.{◌≡◌, ◌≢◌, ◌≤◌, ◌↔◌, 
 ghost use Rattle.std.specs.Prelude.{vec_capacity, vec_len};
 ghost use Rattle.std.specs.List.{AllPairs, Contains, cons_option};
 ghost use Rattle.at_atp_responder.specs.Keys.{AreApart};
-ghost use Rattle.at_event.specs.declared.event.Timer.{Timer as Fired};
+ghost use Rattle.at_event.specs.declared.Timer.{Timer as Fired};
 ghost use Rattle.at_node.specs.Nodes.{timed};
 ghost use Rattle.at_node.specs.Timers.{Acts, Adds, lookups, release_of, releases, retries, ticks, timer_of};
 ghost use Rattle.at_node.specs.Timers.{timers_of};

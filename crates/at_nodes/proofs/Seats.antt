@@ -3,16 +3,16 @@ use Rattle.std.proofs.Common.{◌≡◌, Bool, true, false, List, ℕ, inl, inr,
 use Rattle.std.specs.Prelude.{MatchBool, ◌==◌, ◌||◌}
 use Rattle.at_ddp.specs.Datagram.{Content as Datagram}
 use Rattle.at_ddp.specs.Protocols.{atp_kind, nbp_kind, adsp_kind}
-use Rattle.at_event.specs.declared.event.Call.{Call}
-use Rattle.at_event.specs.declared.event.Call.TheVariants.{Transactions, Zones, Names, Streams, Session}
-use Rattle.at_event.specs.declared.calls.NameCall.{NameCall}
-use Rattle.at_event.specs.declared.calls.NameCall.TheVariants.{Find, Claim, Finish, Register, Unregister}
-use Rattle.at_event.specs.declared.report.Report.TheVariants as report
-use Rattle.at_event.specs.declared.event.Timer.{Timer}
-use Rattle.at_event.specs.declared.event.Timer.TheVariants as timer
-use Rattle.at_event.specs.declared.timers.TransactionTimer.TheVariants as atp_timer
-use Rattle.at_event.specs.declared.timers.NameTimer.TheVariants as nbp_timer
-use Rattle.at_event.specs.declared.timers.StreamTimer.TheVariants as adsp_timer
+use Rattle.at_event.specs.declared.Call.{Call}
+use Rattle.at_event.specs.declared.Call.TheVariants.{Transactions, Zones, Names, Streams, Session}
+use Rattle.at_event.specs.declared.names.NameCall.{NameCall}
+use Rattle.at_event.specs.declared.names.NameCall.TheVariants.{Find, Claim, Finish, Register, Unregister}
+use Rattle.at_event.specs.declared.Report.TheVariants as report
+use Rattle.at_event.specs.declared.Timer.{Timer}
+use Rattle.at_event.specs.declared.Timer.TheVariants as timer
+use Rattle.at_event.specs.declared.transactions.TransactionTimer.TheVariants as atp_timer
+use Rattle.at_event.specs.declared.names.NameTimer.TheVariants as nbp_timer
+use Rattle.at_event.specs.declared.streams.StreamTimer.TheVariants as adsp_timer
 use Rattle.at_event.specs.declared.service.Reply.{Reply}
 use Rattle.at_transaction_socket.specs.AtpHearing.{HearsAtp}
 use Rattle.at_node.specs.Hearing.{Hears, HearsIt, HearsMine}

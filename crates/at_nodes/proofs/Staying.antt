@@ -2,8 +2,9 @@
 use Rattle.std.proofs.Common.{◌≡◌, Bool, true, false, List, ap, ◌∙◌}
 use Rattle.std.specs.Prelude.{MatchBool}
 use Rattle.at_ddp.specs.Datagrams.{Posted}
-use Rattle.at_event.specs.Outcomes.{Comes, Exactly, IsStep, Outcome, takes_memory, wants_memory}
-use Rattle.at_event.specs.declared.report.Report.{Report}
+use Rattle.at_event.specs.Outcomes.{Comes, Exactly, IsStep, Outcome, wants_memory}
+use Rattle.at_event.specs.Kinds.{takes_memory}
+use Rattle.at_event.specs.declared.Report.{Report}
 use Rattle.at_node.specs.Hearing.{Hears}
 use Rattle.at_node.specs.Nodes.{NodeState, called, timed}
 use Rattle.at_node.specs.declared.numbers.Input.{Input}

@@ -3,7 +3,7 @@ use Rattle.std.specs.Prelude.{◌≡◌, ℕ, true, List}
 use Rattle.at_ddp.specs.Datagrams.{Posted}
 use Rattle.at_event.specs.Outcomes.{Comes, IsStep}
 use Rattle.at_event.specs.Services.{is_asked}
-use Rattle.at_event.specs.declared.report.Report.{Report}
+use Rattle.at_event.specs.declared.Report.{Report}
 use Rattle.at_event.specs.declared.service.Reply.{Reply}
 use Rattle.at_event.specs.declared.service.Reply.TheVariants as reply
 use Rattle.at_node.specs.Hearing.{Hears}

@@ -1,8 +1,8 @@
 //! The law of where a node is. The function does nothing: its contract is the law.
 ghost use Rattle.std.specs.Prelude.{List, ℕ};
 ghost use Rattle.at_event.specs.Outcomes.{Outcome};
-ghost use Rattle.at_event.specs.declared.event.Call.{Call};
-ghost use Rattle.at_event.specs.declared.event.Timer.{Timer};
+ghost use Rattle.at_event.specs.declared.Call.{Call};
+ghost use Rattle.at_event.specs.declared.Timer.{Timer};
 ghost use Rattle.at_event.specs.declared.service.Reply.{Reply};
 ghost use Rattle.at_node.specs.Hearing.{Hears};
 ghost use Rattle.at_node.specs.Nodes.{NodeState, called, timed};

@@ -4,22 +4,25 @@ use Rattle.at_ddp.specs.Datagram.{BeginsWith, Content, content}
 use Rattle.at_ddp.specs.Fault.{IsFirstFault}
 use Rattle.at_ddp.specs.Protocols.{adsp_kind, atp_kind, nbp_kind}
 use Rattle.at_ddp.specs.declared.fault.DdpFault.{DdpFault}
-use Rattle.at_packet.specs.declared.body.Body.{Body}
-use Rattle.at_packet.specs.declared.body.Body.TheVariants.{Adsp, Atp, Nbp, Other}
+use Rattle.at_packet.specs.declared.Body.{Body}
+use Rattle.at_packet.specs.declared.Body.TheVariants as body
+pub mod Adsp
+pub mod Atp
+pub mod Nbp
 
 -- the datagram
 abbrev pub datagram_of : Body → Content
-datagram_of (Atp packet) = packet
-datagram_of (Nbp packet) = packet
-datagram_of (Adsp packet) = packet
-datagram_of (Other datagram) = content datagram
+datagram_of (body.Atp packet) = packet
+datagram_of (body.Nbp packet) = packet
+datagram_of (body.Adsp packet) = packet
+datagram_of (body.Other datagram) = content datagram
 
 -- the data is decoded by the protocol that the header names
 abbrev pub IsBody : Body → Type 0
-IsBody (Atp packet) = packet.kind ≡ atp_kind
-IsBody (Nbp packet) = packet.kind ≡ nbp_kind
-IsBody (Adsp packet) = packet.kind ≡ adsp_kind
-IsBody (Other datagram) =
+IsBody (body.Atp packet) = packet.kind ≡ atp_kind
+IsBody (body.Nbp packet) = packet.kind ≡ nbp_kind
+IsBody (body.Adsp packet) = packet.kind ≡ adsp_kind
+IsBody (body.Other datagram) =
     (datagram.kind ≢ atp_kind) × (datagram.kind ≢ nbp_kind) × (datagram.kind ≢ adsp_kind)
 
 -- this is the datagram at the front of the bytes, decoded by its protocol, or their first fault

@@ -17,7 +17,7 @@ pub struct AdspPacket<'a> {
 
 impl<'a> Model for AdspPacket<'a> {
     ghost use Rattle.at_ddp.specs.Datagram.{Content, content};
-    ghost use Rattle.at_packet.specs.Decoded.{IsSegment};
+    ghost use Rattle.at_packet.specs.Bodies.Adsp.{IsSegment};
 
     ghost Value = { Content };
 

@@ -17,7 +17,7 @@ pub struct AtpPacket<'a> {
 
 impl<'a> Model for AtpPacket<'a> {
     ghost use Rattle.at_ddp.specs.Datagram.{Content, content};
-    ghost use Rattle.at_packet.specs.Decoded.{IsFrame};
+    ghost use Rattle.at_packet.specs.Bodies.Atp.{IsFrame};
 
     ghost Value = { Content };
 

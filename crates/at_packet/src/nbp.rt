@@ -4,7 +4,7 @@ ghost use Rattle.at_ddp.specs.Datagram.{content as written};
 ghost use Rattle.at_nbp.specs.Fault.{IsFirstFault};
 ghost use Rattle.at_nbp.specs.Packets.{BeginsWith, Content, HasCount, packet_content};
 ghost use Rattle.at_nbp.specs.declared.fault.NbpFault.{NbpFault as Fault};
-ghost use Rattle.at_packet.specs.Decoded.{IsNames};
+ghost use Rattle.at_packet.specs.Bodies.Nbp.{IsNames};
 
 use at_ddp::Datagram;
 use at_nbp::{NbpFault, Packet, decode};
@@ -19,7 +19,7 @@ pub struct NbpPacket<'a> {
 
 impl<'a> Model for NbpPacket<'a> {
     ghost use Rattle.at_ddp.specs.Datagram.{Content, content};
-    ghost use Rattle.at_packet.specs.Decoded.{IsNames};
+    ghost use Rattle.at_packet.specs.Bodies.Nbp.{IsNames};
 
     ghost Value = { Content };
 

@@ -4,7 +4,7 @@ ghost use Rattle.at_ddp.specs.Datagram.{BeginsWith, Content};
 ghost use Rattle.at_ddp.specs.Fault.{IsFirstFault};
 ghost use Rattle.at_packet.specs.Bodies.{IsBody, IsDecoded, datagram_of};
 
-use crate::body::Body;
+use crate::Body;
 use at_ddp::{DdpFault, decode};
 use std::marker::Model;
 

@@ -6,7 +6,7 @@ use Rattle.std.specs.declared.io.Error.{Error}
 use Rattle.at_diagnostics.specs.declared.diagnostics.Diagnostics.{Diagnostics}
 use Rattle.at_diagnostics.specs.declared.stop.Stop.{Stop}
 use Rattle.at_diagnostics.specs.declared.stop.Stop.TheVariants as stop
-use Rattle.at_event.specs.declared.report.Report.{Report}
+use Rattle.at_event.specs.declared.Report.{Report}
 use Rattle.at_opened.specs.declared.source.Source.{Source}
 use Rattle.at_play.proofs.AccountLemmas.{source_as}
 use Rattle.at_play.proofs.ReportLemmas.{after_plays, counted, sent_grows}

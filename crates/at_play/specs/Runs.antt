@@ -4,7 +4,7 @@ use Rattle.std.specs.List.{All}
 use Rattle.at_diagnostics.specs.declared.diagnostics.Diagnostics.{Diagnostics}
 use Rattle.at_diagnostics.specs.declared.stop.Stop.{Stop}
 use Rattle.at_diagnostics.specs.declared.stop.Stop.TheVariants as stop
-use Rattle.at_event.specs.declared.report.Report.{Report}
+use Rattle.at_event.specs.declared.Report.{Report}
 use Rattle.at_play.specs.Sent.{sent_lines}
 use Rattle.at_play.specs.Told.{EndsAfter, FailsAfter, TellsReports}
 use Rattle.at_play.specs.declared.ending.Ending.{Ending}

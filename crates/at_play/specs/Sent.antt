@@ -1,6 +1,6 @@
 -- What is printed of an event that was played: its report, and the datagrams that it sent.
 use Rattle.std.specs.Prelude.{ℕ, ◌+◌, List, [], ◌∷◌, ◌++◌, drop}
-use Rattle.at_event.specs.declared.report.Report.{Report}
+use Rattle.at_event.specs.declared.Report.{Report}
 use Rattle.at_world.specs.Sents.{SentDatagram}
 use Rattle.at_print.specs.Reports.{datagram_line, event_line}
 

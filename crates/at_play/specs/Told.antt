@@ -2,7 +2,7 @@
 use Rattle.std.specs.Prelude.{◌≡◌, ◌⊎◌, ℕ, ◌+◌, ◌<◌, Bool, true, false, List, [], ◌∷◌, ◌++◌, filter, length, IfSome}
 use Rattle.std.specs.Prelude.{Option, Result, Ok, Err}
 use Rattle.std.specs.List.{All}
-use Rattle.at_event.specs.declared.report.Report.{Report}
+use Rattle.at_event.specs.declared.Report.{Report}
 use Rattle.at_faults.specs.Reads.{IsOfSystem}
 use Rattle.at_faults.specs.declared.fault.Fault.{Fault as TextFault}
 use Rattle.at_faults.specs.declared.fault.Fault.TheVariants as why

@@ -10,7 +10,7 @@ use Rattle.at_print.specs.Lines.{address_text}
 use Rattle.at_print.specs.NameLines.{function_word, names_lines, tuple_line}
 use Rattle.at_print.specs.Papers.{Page}
 use Rattle.at_print.specs.Printers.{Prints}
-use Rattle.at_print.specs.Reports.{name_text, text_word}
+use Rattle.at_print.specs.TextWords.{name_text, text_word}
 use Rattle.at_print.specs.declared.printer.Printer.{Printer}
 use Rattle.at_print.proofs.PrintLemmas.{Prints-five, Prints-trans}
 

@@ -10,7 +10,7 @@ use Rattle.at_print.specs.Lines.{hex_text}
 use Rattle.at_atp_frame.specs.Packets.{Packet}
 use Rattle.at_print.specs.Papers.{Page}
 use Rattle.at_print.specs.Printers.{Prints}
-use Rattle.at_print.specs.Reports.{packet_text}
+use Rattle.at_print.specs.Reports.Transactions.{packet_text}
 use Rattle.at_print.specs.declared.printer.Printer.{Printer}
 use Rattle.at_print.proofs.PrintLemmas.{Prints-trans}
 

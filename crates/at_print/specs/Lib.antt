@@ -8,4 +8,4 @@ pub mod Reports
 pub mod Requesters
 pub mod SegmentLines
 pub mod Statuses
-pub mod Timers
+pub mod TextWords

@@ -7,7 +7,7 @@ use Rattle.at_nbp.specs.Tuples.{Entry}
 use Rattle.at_nbp.specs.declared.function.Function.{Function}
 use Rattle.at_nbp.specs.declared.function.Function.TheVariants.{BroadcastRequest, LookUp, Reply, ForwardRequest}
 use Rattle.at_print.specs.Lines.{address_text}
-use Rattle.at_print.specs.Reports.{name_text}
+use Rattle.at_print.specs.TextWords.{name_text}
 
 abbrev pub function_word : Function → List ℕ
 function_word BroadcastRequest = codes "brrq"

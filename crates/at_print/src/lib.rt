@@ -4,7 +4,6 @@
 mod digits;
 pub mod laws;
 mod name_lines;
-mod name_reports;
 mod packet_lines;
 mod paper;
 mod part;
@@ -14,19 +13,14 @@ mod printer;
 mod requesters;
 mod segment_lines;
 mod status;
-mod stream_reports;
 mod text_words;
-mod timers;
-mod transaction_reports;
-mod zone_reports;
 
 pub use name_lines::write_names;
 pub use packet_lines::{write_frame, write_header, write_raw};
 pub use paper::Paper;
 pub use part::Part;
-pub use print::{write_datagram, write_event, write_event_at};
+pub use print::{write_datagram, write_event, write_event_at, write_timer};
 pub use printer::Printer;
 pub use segment_lines::write_segment;
 pub use status::Status;
 pub use text_words::write_text;
-pub use timers::write_timer;

@@ -5,7 +5,7 @@ ghost use Rattle.at_nbp.specs.Packets.{packet_content};
 ghost use Rattle.at_nbp.specs.Tuples.{content};
 ghost use Rattle.at_print.specs.NameLines.{function_word, names_lines, tuple_line};
 ghost use Rattle.at_print.specs.Printers.{Prints};
-ghost use Rattle.at_print.specs.Reports.{name_text};
+ghost use Rattle.at_print.specs.TextWords.{name_text};
 
 use crate::packet_lines::write_address;
 use crate::paper::Paper;

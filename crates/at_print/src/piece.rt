@@ -17,6 +17,9 @@ pub(crate) const ROOM: usize = 128;
 /// The number of an event and a space, with which its line begins.
 pub(crate) const HEAD: usize = 21;
 
+/// The word with which the line of a timer begins, and a space.
+pub(crate) const TIMER: usize = 6;
+
 /// A text that is not printed yet, of at most 128 bytes.
 #[derive(Drop)]
 pub(crate) struct Piece {

@@ -1,18 +1,28 @@
-//! What is printed of a report, and of a datagram.
+//! What is printed of a report, of a timer and of a datagram. A protocol has a file below this one.
 ghost use Rattle.std.specs.Prelude.{◌≡◌, ◌≤◌, ◌++◌, codes, length};
 ghost use Rattle.std.specs.Fmt.{decimal};
 ghost use Rattle.at_print.specs.Printers.{Prints};
 ghost use Rattle.at_print.specs.Reports.{datagram_line, event_line, event_line_at, report_text};
+ghost use Rattle.at_print.specs.Reports.{timer_line};
 
-use crate::name_reports::write_name_report;
 use crate::paper::Paper;
-use crate::piece::{HEAD, Piece, end_with_hex, end_with_number, end_with_pairs, end_with_word};
+use crate::piece::{
+    HEAD, Piece, TIMER, end_with_hex, end_with_number, end_with_pairs, end_with_word,
+};
+use crate::print::names::{write_name_report, write_name_timer};
+use crate::print::streams::{write_stream_report, write_stream_timer};
+use crate::print::transactions::{
+    write_transaction_report, write_transaction_report_at, write_transaction_timer,
+};
+use crate::print::zones::write_zone_report;
 use crate::printer::Printer;
-use crate::stream_reports::write_stream_report;
-use crate::transaction_reports::{write_transaction_report, write_transaction_report_at};
-use crate::zone_reports::write_zone_report;
-use at_event::Report;
+use at_event::{Report, Timer};
 use std::alloc::Allocator;
+
+mod names;
+mod streams;
+mod transactions;
+mod zones;
 
 /// The most bytes of a datagram that is printed with the beginning of its line, by one write.
 const SHORT: usize = 40;
@@ -88,4 +98,26 @@ fn write_report<A: Allocator, W: Paper>(printer: &mut Printer<W>, line: Piece, r
         Report::Refused(number) => end_with_number(printer, line, b"refused ", u64::from(*number)),
         Report::NoMemory => end_with_word(printer, line, b"nomemory"),
     }
+}
+
+/// Prints the line of a timer. A requester of network `net` is named by its node, and any other by `NET.NODE`.
+pub fn write_timer<W: Paper>(printer: &mut Printer<W>, net: u16, timer: Timer)
+    ensures { Prints W.page printer.old printer.new (timer_line net timer) }
+{
+    let line = timer_beginning();
+    match timer {
+        Timer::Transactions(timer) => write_transaction_timer(printer, line, net, timer),
+        Timer::Names(timer) => write_name_timer(printer, line, timer),
+        Timer::Streams(timer) => write_stream_timer(printer, line, timer),
+    }
+}
+
+// What the line of each timer begins with.
+fn timer_beginning() -> Piece
+    ensures text { result ≡ codes "timer " }
+    ensures short { length result ≤ TIMER }
+{
+    let mut line = Piece::new();
+    line.put(b"timer ");
+    line
 }

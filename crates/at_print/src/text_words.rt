@@ -2,7 +2,7 @@
 ghost use Rattle.std.specs.Prelude.{◌≡◌, ◌≤◌, ◌+◌, ◌++◌, length};
 ghost use Rattle.std.specs.List.{flat_map};
 ghost use Rattle.at_print.specs.Printers.{Prints};
-ghost use Rattle.at_print.specs.Reports.{glyph, is_sign, stands_for_itself, text_word};
+ghost use Rattle.at_print.specs.TextWords.{glyph, is_sign, stands_for_itself, text_word};
 
 use crate::paper::Paper;
 use crate::piece::{Piece, ROOM};

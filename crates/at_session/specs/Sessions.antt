@@ -7,10 +7,10 @@ use Rattle.at_nbp.specs.Names.{same_text}
 use Rattle.at_nbp.specs.declared.find.Find.{Find}
 use Rattle.at_nbp.specs.declared.name.Name.{Name}
 use Rattle.at_zip.specs.Tables.{Tables, with_table}
-use Rattle.at_event.specs.declared.report.Report.{Report}
-use Rattle.at_event.specs.declared.report.Report.TheVariants as report
-use Rattle.at_event.specs.declared.reports.ZoneReport.TheVariants as zip_report
-use Rattle.at_event.specs.declared.reports.NameReport.TheVariants as nbp_report
+use Rattle.at_event.specs.declared.Report.{Report}
+use Rattle.at_event.specs.declared.Report.TheVariants as report
+use Rattle.at_event.specs.declared.zones.ZoneReport.TheVariants as zip_report
+use Rattle.at_event.specs.declared.names.NameReport.TheVariants as nbp_report
 
 pub record SessionState : Type 0 where
   pub lists : Tables  -- the zone list of the last reading of each kind that ended with one

@@ -10,8 +10,10 @@ use Rattle.at_print.specs.Papers.{Page}
 use Rattle.at_print.specs.declared.status.Status.{Status}
 use Rattle.at_print.specs.declared.status.Status.TheVariants.{Done, Failed}
 use Rattle.at_show.specs.HexFaults.{fault_line}
-use Rattle.at_show.specs.Shown.{IsReadable, IsSound, Shows}
-use Rattle.at_show.specs.Texts.{WordText, NoHex, NoRoom, refusal_line}
+use Rattle.at_show.specs.Data.{IsReadable}
+use Rattle.at_show.specs.Shown.{IsSound, Shows}
+use Rattle.at_show.specs.Texts.{WordText, NoHex, NoRoom}
+use Rattle.at_show.specs.Refusals.{refusal_line}
 use Rattle.at_show.specs.Told.{TellsRefusal, TellsWhy}
 use Rattle.at_words.specs.Hexes.{IsHex}
 use Rattle.at_words.specs.declared.hex_word.HexFault.{HexFault}

@@ -1,4 +1,6 @@
+pub mod Data
 pub mod HexFaults
+pub mod Refusals
 pub mod Shown
 pub mod Texts
 pub mod Told

@@ -9,18 +9,18 @@ use Rattle.at_ddp.specs.Protocols.{atp_kind, nbp_kind, adsp_kind}
 use Rattle.at_event.specs.Kinds.{Kind, Adsp, Atp, Nbp, Nobody, Session, kind_of_call, kind_of_timer, reporter_of}
 use Rattle.at_event.specs.Outcomes.{Outcome, Outgoing, Over, Through, idle, over}
 use Rattle.at_event.specs.Seats.{is_for_all, is_mine}
-use Rattle.at_event.specs.declared.event.Call.{Call}
-use Rattle.at_event.specs.declared.event.Call.TheVariants.{Transactions, Zones, Names, Streams}
-use Rattle.at_event.specs.declared.event.Call.TheVariants as protocol
-use Rattle.at_event.specs.declared.calls.SessionCall.TheVariants.{Pick}
-use Rattle.at_event.specs.declared.report.Report.{Report}
-use Rattle.at_event.specs.declared.report.Report.TheVariants as report
-use Rattle.at_event.specs.declared.reports.ZoneReport.TheVariants as zip_report
-use Rattle.at_event.specs.declared.event.Timer.{Timer}
-use Rattle.at_event.specs.declared.event.Timer.TheVariants as timer
-use Rattle.at_event.specs.declared.timers.TransactionTimer.TheVariants as atp_timer
-use Rattle.at_event.specs.declared.timers.NameTimer.TheVariants as nbp_timer
-use Rattle.at_event.specs.declared.timers.StreamTimer.TheVariants as adsp_timer
+use Rattle.at_event.specs.declared.Call.{Call}
+use Rattle.at_event.specs.declared.Call.TheVariants.{Transactions, Zones, Names, Streams}
+use Rattle.at_event.specs.declared.Call.TheVariants as protocol
+use Rattle.at_event.specs.declared.session.SessionCall.TheVariants.{Pick}
+use Rattle.at_event.specs.declared.Report.{Report}
+use Rattle.at_event.specs.declared.Report.TheVariants as report
+use Rattle.at_event.specs.declared.zones.ZoneReport.TheVariants as zip_report
+use Rattle.at_event.specs.declared.Timer.{Timer}
+use Rattle.at_event.specs.declared.Timer.TheVariants as timer
+use Rattle.at_event.specs.declared.transactions.TransactionTimer.TheVariants as atp_timer
+use Rattle.at_event.specs.declared.names.NameTimer.TheVariants as nbp_timer
+use Rattle.at_event.specs.declared.streams.StreamTimer.TheVariants as adsp_timer
 use Rattle.at_event.specs.declared.service.Reply.{Reply}
 use Rattle.at_transaction_socket.specs.AtpHearing.{HearsAtp, atp_socket}
 use Rattle.at_node.specs.Hearing.{Hears, HearsIt, HearsMine}

@@ -1,10 +1,10 @@
 -- What happens at a node, and which reports there are.
 use Rattle.std.specs.Prelude.{ℕ, Bool, true, false}
 use Rattle.at_event.specs.Kinds.{Kind, Nobody, Atp, Nbp, Adsp, reporter_of}
-use Rattle.at_event.specs.declared.event.Call.{Call}
-use Rattle.at_event.specs.declared.report.Report.{Report}
-use Rattle.at_event.specs.declared.report.Report.TheVariants as report
-use Rattle.at_event.specs.declared.event.Timer.{Timer}
+use Rattle.at_event.specs.declared.Call.{Call}
+use Rattle.at_event.specs.declared.Report.{Report}
+use Rattle.at_event.specs.declared.Report.TheVariants as report
+use Rattle.at_event.specs.declared.Timer.{Timer}
 
 -- a call, a timer, the datagram at a place of all that were sent, or bytes that no node sent
 pub data Act (A : Type 0) : Type 0 where

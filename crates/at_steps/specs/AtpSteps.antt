@@ -16,16 +16,16 @@ use Rattle.at_zip.specs.declared.request.Which.{Which}
 use Rattle.at_zip.specs.declared.fault.ZipFault.{ZipFault}
 use Rattle.at_transaction_socket.specs.AtpParts.{AtpState, Reading, asking, serving, zones_at}
 use Rattle.at_transaction_socket.specs.ZoneSocket.{page_packet}
-use Rattle.at_event.specs.declared.event.Call.TheVariants.{Transactions, Zones}
-use Rattle.at_event.specs.declared.calls.TransactionCall.TheVariants.{Ask, Answer}
-use Rattle.at_event.specs.declared.calls.ZoneCall.TheVariants as zone
-use Rattle.at_event.specs.declared.report.Report.{Report}
-use Rattle.at_event.specs.declared.report.Report.TheVariants as report
-use Rattle.at_event.specs.declared.reports.TransactionReport.TheVariants as atp_report
-use Rattle.at_event.specs.declared.reports.ZoneReport.TheVariants as zip_report
-use Rattle.at_event.specs.declared.event.Timer.{Timer}
-use Rattle.at_event.specs.declared.event.Timer.TheVariants as timer
-use Rattle.at_event.specs.declared.timers.TransactionTimer.TheVariants as atp_timer
+use Rattle.at_event.specs.declared.Call.TheVariants.{Transactions, Zones}
+use Rattle.at_event.specs.declared.transactions.TransactionCall.TheVariants.{Ask, Answer}
+use Rattle.at_event.specs.declared.zones.ZoneCall.TheVariants as zone
+use Rattle.at_event.specs.declared.Report.{Report}
+use Rattle.at_event.specs.declared.Report.TheVariants as report
+use Rattle.at_event.specs.declared.transactions.TransactionReport.TheVariants as atp_report
+use Rattle.at_event.specs.declared.zones.ZoneReport.TheVariants as zip_report
+use Rattle.at_event.specs.declared.Timer.{Timer}
+use Rattle.at_event.specs.declared.Timer.TheVariants as timer
+use Rattle.at_event.specs.declared.transactions.TransactionTimer.TheVariants as atp_timer
 use Rattle.at_steps.specs.Acts.{Act, Calls, Fires, Gets}
 
 -- a node's transaction, without answers

@@ -15,7 +15,7 @@ use Rattle.at_name_socket.specs.Sockets.{IsSocket}
 use Rattle.at_name_socket.specs.Steps as sockets
 use Rattle.at_node.specs.Numbers.{drawn_by}
 use Rattle.at_event.specs.Kinds.{reporter_of}
-use Rattle.at_event.specs.Calls.{IsZone}
+use Rattle.at_event.specs.Kinds.Names.{IsZone}
 use Rattle.at_node.specs.Nodes.{NodeState}
 use Rattle.at_event.specs.Outcomes.{Outcome}
 use Rattle.at_node.specs.declared.numbers.Draw.{Draw}

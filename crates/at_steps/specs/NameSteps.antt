@@ -11,13 +11,13 @@ use Rattle.at_name_socket.specs.Sockets as sockets
 use Rattle.at_name_socket.specs.Sockets.{Closes, Opens, Stays, changed, claim_of, open_at}
 use Rattle.at_name_socket.specs.declared.claim.Claim.{Claim as Claimed}
 use Rattle.at_session.specs.Sessions.{SessionState, pattern_asked}
-use Rattle.at_event.specs.declared.event.Call.TheVariants.{Names}
-use Rattle.at_event.specs.declared.calls.NameCall.TheVariants.{Find, Claim, Finish, Register, Unregister}
-use Rattle.at_event.specs.declared.report.Report.{Report}
-use Rattle.at_event.specs.declared.report.Report.TheVariants as report
-use Rattle.at_event.specs.declared.reports.NameReport.TheVariants as nbp_report
-use Rattle.at_event.specs.declared.event.Timer.TheVariants as timer
-use Rattle.at_event.specs.declared.timers.NameTimer.TheVariants as nbp_timer
+use Rattle.at_event.specs.declared.Call.TheVariants.{Names}
+use Rattle.at_event.specs.declared.names.NameCall.TheVariants.{Find, Claim, Finish, Register, Unregister}
+use Rattle.at_event.specs.declared.Report.{Report}
+use Rattle.at_event.specs.declared.Report.TheVariants as report
+use Rattle.at_event.specs.declared.names.NameReport.TheVariants as nbp_report
+use Rattle.at_event.specs.declared.Timer.TheVariants as timer
+use Rattle.at_event.specs.declared.names.NameTimer.TheVariants as nbp_timer
 use Rattle.at_steps.specs.Acts.{Act, Calls, Fires, Gets}
 
 -- a report that says nothing new of names and lookups

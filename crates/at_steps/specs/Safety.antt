@@ -3,48 +3,18 @@
 -- no event makes a node send more datagrams than the queues of one end of a stream have room for items, twice.
 use Rattle.std.specs.Prelude.{◌≡◌, ℕ, ◌≤◌, List, length, Option, Some, None}
 use Rattle.at_ddp.specs.Datagram.{Content as Datagram, BeginsWith}
-use Rattle.at_ddp.specs.Fault as ddp
-use Rattle.at_ddp.specs.declared.fault.DdpFault.{DdpFault}
-use Rattle.at_atp_frame.specs.Fault as atp
-use Rattle.at_atp_frame.specs.declared.fault.AtpFault.{AtpFault}
 use Rattle.at_atp_frame.specs.declared.fault.AtpFault.TheVariants.{Full}
-use Rattle.at_nbp.specs.Fault as nbp
-use Rattle.at_nbp.specs.declared.fault.NbpFault.{NbpFault}
 use Rattle.at_nbp.specs.declared.fault.NbpFault.TheVariants.{NamesFull, LookupsFull}
-use Rattle.at_zip.specs.Fault as zip
-use Rattle.at_zip.specs.declared.fault.ZipFault.{ZipFault}
-use Rattle.at_adsp_frame.specs.Fault as adsp
-use Rattle.at_adsp_frame.specs.declared.fault.AdspFault.{AdspFault}
-use Rattle.at_adsp_end.specs.Fault as streams
-use Rattle.at_adsp_end.specs.declared.fault.StreamFault.{StreamFault}
 use Rattle.at_adsp_end.specs.declared.fault.StreamFault.TheVariants.{EndsFull}
-use Rattle.at_event.specs.Faults as node
+use Rattle.at_event.specs.Kinds.{number_of}
+use Rattle.at_event.specs.declared.Reason.{Reason}
+use Rattle.at_event.specs.declared.Reason.TheVariants.{OfNames, OfStreams, OfTransactions}
 use Rattle.at_event.specs.Outcomes.{Outcome, idle}
-use Rattle.at_event.specs.declared.report.Report.{Report}
-use Rattle.at_event.specs.declared.report.Report.TheVariants as report
-use Rattle.at_event.specs.declared.reports.ZoneReport.TheVariants as zip_report
-use Rattle.at_event.specs.declared.fault.NodeFault.{NodeFault}
+use Rattle.at_event.specs.declared.Report.{Report}
+use Rattle.at_event.specs.declared.Report.TheVariants as report
+use Rattle.at_event.specs.declared.zones.ZoneReport.TheVariants as zip_report
 use Rattle.at_node.specs.Nodes.{NodeState}
 use Rattle.at_transaction_socket.specs.Responders.{records_at}
-
--- why an event of a node is refused, or a reading of the zone list ends: a fault of one of the crates
-pub data Reason : Type 0 where
-  OfDatagrams : DdpFault → Reason
-  OfTransactions : AtpFault → Reason
-  OfNames : NbpFault → Reason
-  OfZones : ZipFault → Reason
-  OfSegments : AdspFault → Reason
-  OfStreams : StreamFault → Reason
-  OfNodes : NodeFault → Reason
-
-abbrev pub number_of : Reason → Option ℕ
-number_of (OfDatagrams fault) = ddp.number_of fault
-number_of (OfTransactions fault) = atp.number_of fault
-number_of (OfNames fault) = nbp.number_of fault
-number_of (OfZones fault) = zip.number_of fault
-number_of (OfSegments fault) = adsp.number_of fault
-number_of (OfStreams fault) = streams.number_of fault
-number_of (OfNodes fault) = Some (node.number_of fault)
 
 -- ---- full tables
 

@@ -2,12 +2,12 @@
 -- picked (Inside AppleTalk, ZIP, "GetZoneList", "GetLocalZones"; NBP, "Name lookup").
 use Rattle.std.specs.Prelude.{◌≡◌, ℕ, List, true}
 use Rattle.at_event.specs.Kinds.{Kind, Session, reporter_of}
-use Rattle.at_event.specs.declared.event.Call.TheVariants.{Names}
-use Rattle.at_event.specs.declared.event.Call.TheVariants as protocol
-use Rattle.at_event.specs.declared.calls.NameCall.TheVariants.{Finish}
-use Rattle.at_event.specs.declared.calls.SessionCall.TheVariants.{Pick}
-use Rattle.at_event.specs.declared.report.Report.{Report}
-use Rattle.at_event.specs.declared.report.Report.TheVariants as report
+use Rattle.at_event.specs.declared.Call.TheVariants.{Names}
+use Rattle.at_event.specs.declared.Call.TheVariants as protocol
+use Rattle.at_event.specs.declared.names.NameCall.TheVariants.{Finish}
+use Rattle.at_event.specs.declared.session.SessionCall.TheVariants.{Pick}
+use Rattle.at_event.specs.declared.Report.{Report}
+use Rattle.at_event.specs.declared.Report.TheVariants as report
 use Rattle.at_session.specs.Sessions.{SessionState, finds_kept, is_listed, list_kept, picking}
 use Rattle.at_steps.specs.Acts.{Act, Calls, Gets}
 

@@ -24,8 +24,9 @@ use Rattle.at_adsp_ends.specs.Calls.{closed_at, frees, read_at, ticked_at, unrea
 use Rattle.at_adsp_ends.specs.Moves.{IsCalled}
 use Rattle.at_adsp_ends.specs.Receiving.{settled}
 use Rattle.at_adsp_ends.specs.Tables.{Done, EndTable, freed, moved}
-use Rattle.at_event.specs.Outcomes.{IsStep, idle, posted, refused_as, sent_by, takes_memory, wants_memory}
-use Rattle.at_event.specs.declared.report.Report.{Report}
+use Rattle.at_event.specs.Outcomes.{IsStep, idle, posted, refused_as, sent_by, wants_memory}
+use Rattle.at_event.specs.Kinds.{takes_memory}
+use Rattle.at_event.specs.declared.Report.{Report}
 use Rattle.at_event.specs.declared.seat.Seat.{Seat}
 use Rattle.at_event.proofs.PostLemmas.{posts as posts_from}
 use Rattle.at_stream_socket.specs.Calls.{called}

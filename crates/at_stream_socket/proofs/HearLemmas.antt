@@ -21,8 +21,8 @@ use Rattle.at_adsp_ends.specs.Openings.{ignored}
 use Rattle.at_adsp_ends.specs.Receiving.{made_id, received}
 use Rattle.at_adsp_ends.specs.Tables.{Done, EndTable}
 use Rattle.at_event.specs.Outcomes.{Comes, idle, refused_as}
-use Rattle.at_event.specs.declared.report.Report.{Report}
-use Rattle.at_event.specs.declared.report.Report.TheVariants.{Ignored, NoMemory, Refused}
+use Rattle.at_event.specs.declared.Report.{Report}
+use Rattle.at_event.specs.declared.Report.TheVariants.{Ignored, NoMemory, Refused}
 use Rattle.at_event.specs.declared.seat.Seat.{Seat}
 use Rattle.at_stream_socket.specs.Hearing.{HearsStreams, segment_heard}
 use Rattle.at_stream_socket.specs.Sockets.{told_by}

@@ -9,9 +9,9 @@ use Rattle.at_adsp_end.specs.declared.tick.Tick.{Tick}
 use Rattle.at_adsp_ends.specs.Calls.{closed_at, connected, listened, read_at, reset_at, ticked_at, wrote}
 use Rattle.at_adsp_ends.specs.Tables.{Done, EndTable, by_id, next_id}
 use Rattle.at_event.specs.Outcomes.{Outcome, idle, refused_as}
-use Rattle.at_event.specs.declared.report.Report.{Report}
-use Rattle.at_event.specs.declared.report.Report.TheVariants as report
-use Rattle.at_event.specs.declared.reports.StreamReport.TheVariants as adsp_report
+use Rattle.at_event.specs.declared.Report.{Report}
+use Rattle.at_event.specs.declared.Report.TheVariants as report
+use Rattle.at_event.specs.declared.streams.StreamReport.TheVariants as adsp_report
 use Rattle.at_event.specs.declared.seat.Seat.{Seat}
 use Rattle.at_stream_socket.specs.Sockets.{answered, told_by, told_opening, told_read, told_wrote}
 

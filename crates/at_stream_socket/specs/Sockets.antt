@@ -9,9 +9,9 @@ use Rattle.at_adsp_end.specs.declared.step.Step.{Step}
 use Rattle.at_adsp_end.specs.declared.step.Step.TheVariants as step
 use Rattle.at_adsp_ends.specs.Tables.{Done, EndTable}
 use Rattle.at_event.specs.Outcomes.{Outcome, Outgoing, sent_by}
-use Rattle.at_event.specs.declared.report.Report.{Report}
-use Rattle.at_event.specs.declared.report.Report.TheVariants as report
-use Rattle.at_event.specs.declared.reports.StreamReport.TheVariants as adsp_report
+use Rattle.at_event.specs.declared.Report.{Report}
+use Rattle.at_event.specs.declared.Report.TheVariants as report
+use Rattle.at_event.specs.declared.streams.StreamReport.TheVariants as adsp_report
 use Rattle.at_event.specs.declared.seat.Seat.{Seat}
 
 abbrev pub streams_at : ℕ → ℕ → Address

@@ -11,13 +11,14 @@ use Rattle.at_atp_requester.specs.Requests.{Heard, begun, heard, next_number, re
 use Rattle.at_zip.specs.Page as pages
 use Rattle.at_atp_requester.specs.declared.step.Step.{Step}
 use Rattle.at_atp_requester.specs.declared.step.Step.TheVariants as step
-use Rattle.at_event.specs.declared.report.Report.{Report}
-use Rattle.at_event.specs.declared.report.Report.TheVariants as report
-use Rattle.at_event.specs.declared.reports.TransactionReport.TheVariants as atp_report
-use Rattle.at_event.specs.declared.reports.ZoneReport.TheVariants as zip_report
+use Rattle.at_event.specs.declared.Report.{Report}
+use Rattle.at_event.specs.declared.Report.TheVariants as report
+use Rattle.at_event.specs.declared.transactions.TransactionReport.TheVariants as atp_report
+use Rattle.at_event.specs.declared.zones.ZoneReport.TheVariants as zip_report
 use Rattle.at_event.specs.declared.seat.Seat.{Seat}
 use Rattle.at_transaction_socket.specs.AtpParts.{AtpState, Reading, after_heard, asking, asks, packet_in, tid_of}
-use Rattle.at_event.specs.Outcomes.{Comes, IsStep, Outcome, posted, sent_by, takes_memory}
+use Rattle.at_event.specs.Outcomes.{Comes, IsStep, Outcome, posted, sent_by}
+use Rattle.at_event.specs.Kinds.{takes_memory}
 use Rattle.at_transaction_socket.specs.RequesterSocket.{AtRequester, reported_other}
 use Rattle.at_transaction_socket.specs.ZoneReading.{AsksOn, ReadsPage, TakesPage, is_page, is_reading, names_read}
 use Rattle.at_transaction_socket.specs.ZoneReading.{page_transaction}

@@ -10,14 +10,15 @@ use Rattle.at_atp_requester.specs.declared.step.Step.TheVariants as step
 use Rattle.at_zip.specs.Fault as zip
 use Rattle.at_zip.specs.Page as pages
 use Rattle.at_zip.specs.declared.fault.ZipFault.{ZipFault}
-use Rattle.at_event.specs.declared.report.Report.{Report}
-use Rattle.at_event.specs.declared.report.Report.TheVariants as report
-use Rattle.at_event.specs.declared.reports.ZoneReport.TheVariants as zip_report
+use Rattle.at_event.specs.declared.Report.{Report}
+use Rattle.at_event.specs.declared.Report.TheVariants as report
+use Rattle.at_event.specs.declared.zones.ZoneReport.TheVariants as zip_report
 use Rattle.at_event.specs.declared.seat.Seat.{Seat}
 use Rattle.at_event.specs.declared.service.Reply.{Reply}
 use Rattle.at_transaction_socket.specs.AtpHearing.{AtSocket, Requester}
 use Rattle.at_transaction_socket.specs.AtpParts.{AtpState, asking, tid_of, packet_in, after_heard}
-use Rattle.at_event.specs.Outcomes.{wants_memory, takes_memory, Outcome, posted, sent_by, Comes, IsStep}
+use Rattle.at_event.specs.Outcomes.{wants_memory, Outcome, posted, sent_by, Comes, IsStep}
+use Rattle.at_event.specs.Kinds.{takes_memory}
 use Rattle.at_transaction_socket.specs.RequesterSocket.{AtRequester, hears_other, reported_other}
 use Rattle.at_transaction_socket.specs.ZoneReading.{ReadsPage, TakesPage, is_page, names_read}
 use Rattle.at_event.proofs.OutcomeLemmas.{comes_with, comes_wider, step_comes}

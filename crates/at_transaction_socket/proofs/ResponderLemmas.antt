@@ -18,14 +18,15 @@ use Rattle.at_atp_responder.specs.declared.reception.Reception.TheVariants as re
 use Rattle.at_zip.specs.Request.{RequestSpells}
 use Rattle.at_zip.specs.Tables.{Tables, table_of}
 use Rattle.at_zip.specs.declared.request.Which.{Which}
-use Rattle.at_event.specs.declared.report.Report.{Report}
-use Rattle.at_event.specs.declared.report.Report.TheVariants.{Ignored}
-use Rattle.at_event.specs.declared.report.Report.TheVariants as report
+use Rattle.at_event.specs.declared.Report.{Report}
+use Rattle.at_event.specs.declared.Report.TheVariants.{Ignored}
+use Rattle.at_event.specs.declared.Report.TheVariants as report
 use Rattle.at_event.specs.declared.seat.Seat.{Seat}
 use Rattle.at_event.specs.declared.service.Reply.{Reply}
 use Rattle.at_transaction_socket.specs.AtpHearing.{HearsAt, HearsAtpFault, AtSocket, Service, Zones}
 use Rattle.at_transaction_socket.specs.AtpParts.{AtpState, serving, zones_at}
-use Rattle.at_event.specs.Outcomes.{wants_memory, takes_memory, Outcome, idle, posted, sent_by, Comes}
+use Rattle.at_event.specs.Outcomes.{wants_memory, Outcome, idle, posted, sent_by, Comes}
+use Rattle.at_event.specs.Kinds.{takes_memory}
 use Rattle.at_transaction_socket.specs.Responders.{is_release, released_report}
 use Rattle.at_transaction_socket.specs.ServiceSocket.{at_service, service_asked, service_released}
 use Rattle.at_transaction_socket.specs.ZoneSocket.{page_packet, at_zones, zone_asked, zone_released}

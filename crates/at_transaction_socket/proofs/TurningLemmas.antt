@@ -12,8 +12,8 @@ use Rattle.at_atp_requester.specs.Requests.{Heard, Requests, Transaction, came, 
 use Rattle.at_atp_requester.specs.Requests.{is_at_least_once, is_finished, is_of, next_number, response_came, was_kept}
 use Rattle.at_zip.specs.Page as pages
 use Rattle.at_event.specs.Outcomes.{Outcome}
-use Rattle.at_event.specs.declared.report.Report.TheVariants as report
-use Rattle.at_event.specs.declared.reports.TransactionReport.TheVariants as atp_report
+use Rattle.at_event.specs.declared.Report.TheVariants as report
+use Rattle.at_event.specs.declared.transactions.TransactionReport.TheVariants as atp_report
 use Rattle.at_event.specs.declared.seat.Seat.{Seat}
 use Rattle.at_transaction_socket.specs.AtpParts.{AtpState, Reading, packet_in}
 use Rattle.at_transaction_socket.specs.RequesterSocket.{AtRequester}

@@ -6,7 +6,7 @@ use Rattle.at_atp_frame.specs.Fault as atp
 use Rattle.at_atp_frame.specs.Frames.{Content, Spells}
 use Rattle.at_atp_frame.specs.declared.fault.AtpFault.{AtpFault}
 use Rattle.at_zip.specs.Tables.{Tables}
-use Rattle.at_event.specs.declared.report.Report.TheVariants as report
+use Rattle.at_event.specs.declared.Report.TheVariants as report
 use Rattle.at_event.specs.declared.seat.Seat.{Seat}
 use Rattle.at_event.specs.declared.service.Reply.{Reply}
 use Rattle.at_transaction_socket.specs.AtpParts.{AtpState}

@@ -9,9 +9,9 @@ use Rattle.at_atp_responder.specs.Records.{Record}
 use Rattle.at_atp_requester.specs.Requests.{Transaction, Requests, Heard, no_requests, begun, request_by}
 use Rattle.at_zip.specs.Tables.{Tables}
 use Rattle.at_zip.specs.declared.request.Which.{Which}
-use Rattle.at_event.specs.declared.report.Report.{Report}
-use Rattle.at_event.specs.declared.report.Report.TheVariants as report
-use Rattle.at_event.specs.declared.reports.TransactionReport.TheVariants as atp_report
+use Rattle.at_event.specs.declared.Report.{Report}
+use Rattle.at_event.specs.declared.Report.TheVariants as report
+use Rattle.at_event.specs.declared.transactions.TransactionReport.TheVariants as atp_report
 use Rattle.at_event.specs.declared.seat.Seat.{Seat}
 use Rattle.at_event.specs.Outcomes.{Outcome, sent_by}
 

@@ -11,9 +11,9 @@ use Rattle.at_atp_requester.specs.declared.step.Retry.{Retry}
 use Rattle.at_atp_requester.specs.declared.step.Retry.TheVariants as retry
 use Rattle.at_atp_requester.specs.declared.step.Step.{Step}
 use Rattle.at_atp_requester.specs.declared.step.Step.TheVariants as step
-use Rattle.at_event.specs.declared.report.Report.{Report}
-use Rattle.at_event.specs.declared.report.Report.TheVariants as report
-use Rattle.at_event.specs.declared.reports.TransactionReport.TheVariants as atp_report
+use Rattle.at_event.specs.declared.Report.{Report}
+use Rattle.at_event.specs.declared.Report.TheVariants as report
+use Rattle.at_event.specs.declared.transactions.TransactionReport.TheVariants as atp_report
 use Rattle.at_event.specs.declared.seat.Seat.{Seat}
 use Rattle.at_transaction_socket.specs.AtpParts.{AtpState, asking, asks, after_heard, packet_in, tid_of}
 use Rattle.at_event.specs.Outcomes.{Outcome, idle, sent_by, refused_as}

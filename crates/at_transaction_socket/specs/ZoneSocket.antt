@@ -17,10 +17,10 @@ use Rattle.at_zip.specs.Zones.{table_fault}
 use Rattle.at_zip.specs.Tables.{Tables, table_of, with_table}
 use Rattle.at_zip.specs.declared.request.Which.{Which}
 use Rattle.at_zip.specs.declared.fault.ZipFault.{ZipFault}
-use Rattle.at_event.specs.declared.report.Report.{Report}
-use Rattle.at_event.specs.declared.report.Report.TheVariants as report
-use Rattle.at_event.specs.declared.reports.TransactionReport.TheVariants as atp_report
-use Rattle.at_event.specs.declared.reports.ZoneReport.TheVariants as zip_report
+use Rattle.at_event.specs.declared.Report.{Report}
+use Rattle.at_event.specs.declared.Report.TheVariants as report
+use Rattle.at_event.specs.declared.transactions.TransactionReport.TheVariants as atp_report
+use Rattle.at_event.specs.declared.zones.ZoneReport.TheVariants as zip_report
 use Rattle.at_event.specs.declared.fault.NodeFault.TheVariants.{NoRouter}
 use Rattle.at_event.specs.declared.seat.Seat.{Seat}
 use Rattle.at_transaction_socket.specs.AtpParts.{AtpState, zones_at}

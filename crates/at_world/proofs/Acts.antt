@@ -1,7 +1,7 @@
 -- An event is what happens at its node.
 use Rattle.std.proofs.Common.{◌≡◌, ℕ, ap}
-use Rattle.at_event.specs.declared.event.Call.{Call}
-use Rattle.at_event.specs.declared.event.Timer.{Timer}
+use Rattle.at_event.specs.declared.Call.{Call}
+use Rattle.at_event.specs.declared.Timer.{Timer}
 use Rattle.at_steps.specs.Acts.{Calls, Fires, Gets}
 use Rattle.at_world.specs.Events.{act_of, node_of}
 use Rattle.at_setup.specs.declared.event.Event.{Event}

@@ -1,8 +1,8 @@
 -- All that a world sends is spelled canonically.
 use Rattle.std.proofs.Common.{ℕ, List, [], ◌∷◌, ◌++◌, map, take, Result, Ok, Err, refl, sym, subst}
 use Rattle.at_ddp.specs.Datagrams.{Posted}
-use Rattle.at_event.specs.declared.report.Report.{Report}
-use Rattle.at_event.specs.declared.report.Report.TheVariants.{NoMemory}
+use Rattle.at_event.specs.declared.Report.{Report}
+use Rattle.at_event.specs.declared.Report.TheVariants.{NoMemory}
 use Rattle.at_node.specs.Hearing.{Hears}
 use Rattle.at_node.specs.Nodes.{NodeState, called, timed}
 use Rattle.at_event.specs.Outcomes.{Outcome, Outgoing, posted, IsStep, Comes}

@@ -9,7 +9,7 @@ use Rattle.std.specs.Prelude.{slice_get, ◌==◌, ◌||◌, if◌then◌else◌
 use Rattle.at_node.specs.Numbers.{Carries, DrawsHearing}
 use Rattle.at_node.specs.Nodes.{NodeState}
 use Rattle.at_node.specs.declared.numbers.Draw.{Draw}
-use Rattle.at_event.specs.declared.report.Report.{Report}
+use Rattle.at_event.specs.declared.Report.{Report}
 use Rattle.at_world.specs.Draws.{Draws, last_of, is_no_later}
 use Rattle.at_world.specs.Sents.{SentDatagram}
 use Rattle.at_setup.specs.declared.event.Event.{Event}

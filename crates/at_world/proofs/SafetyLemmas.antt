@@ -8,10 +8,10 @@ use Rattle.at_ddp.specs.Datagrams.{Posted}
 use Rattle.at_ddp.specs.Tables.{replaced}
 use Rattle.at_ddp.proofs.CountLemmas.{length_replaced}
 use Rattle.at_event.specs.Outcomes.{Comes, IsStep, Outcome, posted}
-use Rattle.at_event.specs.declared.event.Call.{Call}
-use Rattle.at_event.specs.declared.report.Report.{Report}
-use Rattle.at_event.specs.declared.report.Report.TheVariants as report
-use Rattle.at_event.specs.declared.event.Timer.{Timer}
+use Rattle.at_event.specs.declared.Call.{Call}
+use Rattle.at_event.specs.declared.Report.{Report}
+use Rattle.at_event.specs.declared.Report.TheVariants as report
+use Rattle.at_event.specs.declared.Timer.{Timer}
 use Rattle.at_event.specs.declared.service.Reply.{Reply}
 use Rattle.at_node.specs.Numbers.{drawn_by}
 use Rattle.at_node.specs.Hearing.{Hears}
@@ -20,8 +20,10 @@ use Rattle.at_node.specs.Nodes.{NodeState, called, timed}
 use Rattle.at_setup.specs.declared.event.Event.{Event}
 use Rattle.at_setup.specs.declared.event.Event.TheVariants as event
 use Rattle.at_atp_frame.specs.declared.fault.AtpFault.TheVariants.{Full}
-use Rattle.at_steps.specs.Safety.{IsPlaceOf, IsPlaceOfCall, IsReason, IsSafe as IsSafeOutcome, IsTrueOf, OfTransactions}
-use Rattle.at_steps.specs.Safety.{Place, Reason, number_told}
+use Rattle.at_steps.specs.Safety.{IsPlaceOf, IsPlaceOfCall, IsReason, IsSafe as IsSafeOutcome, IsTrueOf}
+use Rattle.at_event.specs.declared.Reason.TheVariants.{OfTransactions}
+use Rattle.at_steps.specs.Safety.{Place, number_told}
+use Rattle.at_event.specs.declared.Reason.{Reason}
 use Rattle.at_world.specs.Draws.{noted}
 use Rattle.at_world.specs.Events.{node_of}
 use Rattle.at_nodes.specs.Nodes.{AreWithin}

@@ -11,7 +11,7 @@ use Rattle.at_ddp.specs.Datagrams.{Posted}
 use Rattle.at_ddp.proofs.TableLemmas.{Found}
 use Rattle.at_node.specs.declared.numbers.Draw.{Draw}
 use Rattle.at_node.specs.declared.numbers.Input.{Input}
-use Rattle.at_event.specs.declared.report.Report.{Report}
+use Rattle.at_event.specs.declared.Report.{Report}
 use Rattle.at_node.specs.Numbers.{drawn_by, Draws as DrawsFor}
 use Rattle.at_node.specs.Nodes.{NodeState}
 use Rattle.at_world.specs.Draws.{Draws}

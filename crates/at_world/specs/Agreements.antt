@@ -7,9 +7,9 @@ use Rattle.at_adsp_ends.specs.Tables.{by_id}
 use Rattle.at_atp.specs.Network.{Sent}
 use Rattle.at_atp_frame.specs.Frames.{number_of}
 use Rattle.at_atp_frame.specs.Packets.{Packet}
-use Rattle.at_event.specs.declared.report.Report.{Report}
-use Rattle.at_event.specs.declared.report.Report.TheVariants as report
-use Rattle.at_event.specs.declared.reports.ZoneReport.TheVariants as zip_report
+use Rattle.at_event.specs.declared.Report.{Report}
+use Rattle.at_event.specs.declared.Report.TheVariants as report
+use Rattle.at_event.specs.declared.zones.ZoneReport.TheVariants as zip_report
 use Rattle.at_ddp.specs.declared.address.Address.{Address}
 use Rattle.at_transaction_socket.specs.AtpParts.{zones_at}
 use Rattle.at_node.specs.Nodes.{NodeState}

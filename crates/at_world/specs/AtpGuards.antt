@@ -11,13 +11,13 @@ use Rattle.at_zip.specs.Zones.{IsTable}
 use Rattle.at_zip.specs.declared.request.Which.{Which}
 use Rattle.at_transaction_socket.specs.AtpParts.{asking, serving, zones_at}
 use Rattle.at_event.specs.Kinds.{Kind, Atp}
-use Rattle.at_event.specs.declared.event.Call.TheVariants.{Transactions, Zones}
-use Rattle.at_event.specs.declared.calls.TransactionCall.TheVariants.{Ask, Answer}
-use Rattle.at_event.specs.declared.calls.ZoneCall.TheVariants as zone
-use Rattle.at_event.specs.declared.report.Report.{Report}
-use Rattle.at_event.specs.declared.report.Report.TheVariants as report
-use Rattle.at_event.specs.declared.reports.TransactionReport.TheVariants as atp_report
-use Rattle.at_event.specs.declared.reports.ZoneReport.TheVariants as zip_report
+use Rattle.at_event.specs.declared.Call.TheVariants.{Transactions, Zones}
+use Rattle.at_event.specs.declared.transactions.TransactionCall.TheVariants.{Ask, Answer}
+use Rattle.at_event.specs.declared.zones.ZoneCall.TheVariants as zone
+use Rattle.at_event.specs.declared.Report.{Report}
+use Rattle.at_event.specs.declared.Report.TheVariants as report
+use Rattle.at_event.specs.declared.transactions.TransactionReport.TheVariants as atp_report
+use Rattle.at_event.specs.declared.zones.ZoneReport.TheVariants as zip_report
 use Rattle.at_steps.specs.AtpSteps.{page_answer}
 use Rattle.at_world.specs.Cables.{Cable, at_net}
 use Rattle.at_world.specs.Transactions.{Transaction, Asks, ForPage, ForService, new_transaction, page_asked, Asked}

@@ -1,7 +1,7 @@
 -- What the machine knows that is of no protocol: the cable, and which reports there are.
 use Rattle.std.specs.Prelude.{◌≡◌, ℕ, Option}
 use Rattle.at_ddp.specs.declared.address.Address.{Address}
-use Rattle.at_event.specs.declared.report.Report.{Report}
+use Rattle.at_event.specs.declared.Report.{Report}
 use Rattle.at_steps.specs.Acts as acts
 use Rattle.at_world.specs.Events.{act_of}
 use Rattle.at_nodes.specs.Openings.{router_of}

@@ -2,7 +2,7 @@
 -- the cable, a part for each protocol, and what each node's user was told.
 use Rattle.std.specs.Prelude.{◌≡◌, List, [], ◌∷◌, take, Result, Ok, Err}
 use Rattle.at_event.specs.Kinds.{reporter_of}
-use Rattle.at_event.specs.declared.report.Report.{Report}
+use Rattle.at_event.specs.declared.Report.{Report}
 use Rattle.at_world.specs.AtpGuards as atp
 use Rattle.at_world.specs.AtpGuards.{AtpMachine}
 use Rattle.at_world.specs.Cables as cables

@@ -13,11 +13,11 @@ use Rattle.at_nbp.specs.declared.names.Registered.{Registered}
 use Rattle.at_name_socket.specs.NameSockets.{any_pattern, names_of, own_zone}
 use Rattle.at_name_socket.specs.declared.claim.Claim.{Claim as Claimed}
 use Rattle.at_event.specs.Kinds.{Kind, Nbp}
-use Rattle.at_event.specs.declared.event.Call.TheVariants.{Names}
-use Rattle.at_event.specs.declared.calls.NameCall.TheVariants.{Find, Claim, Finish, Register, Unregister}
-use Rattle.at_event.specs.declared.report.Report.{Report}
-use Rattle.at_event.specs.declared.report.Report.TheVariants as report
-use Rattle.at_event.specs.declared.reports.NameReport.TheVariants as nbp_report
+use Rattle.at_event.specs.declared.Call.TheVariants.{Names}
+use Rattle.at_event.specs.declared.names.NameCall.TheVariants.{Find, Claim, Finish, Register, Unregister}
+use Rattle.at_event.specs.declared.Report.{Report}
+use Rattle.at_event.specs.declared.Report.TheVariants as report
+use Rattle.at_event.specs.declared.names.NameReport.TheVariants as nbp_report
 use Rattle.at_session.specs.Sessions.{pattern_asked}
 use Rattle.at_world.specs.SessionGuards.{Sessions}
 use Rattle.at_setup.specs.declared.event.Event.{Event}

@@ -1,7 +1,7 @@
 -- A whole play: each event by the world's step, with one report for each event.
 use Rattle.std.specs.Prelude.{◌≡◌, ℕ, false, List, [], ◌∷◌, map, take, slice_get}
 use Rattle.std.specs.Prelude.{◌⊎◌, Option, Some, Result, Ok, Err}
-use Rattle.at_event.specs.declared.report.Report.{Report}
+use Rattle.at_event.specs.declared.Report.{Report}
 use Rattle.at_nodes.specs.Openings.{opening_node}
 use Rattle.at_setup.specs.declared.event.Event.{Event}
 use Rattle.at_setup.specs.declared.refusal.Fault.{Fault}

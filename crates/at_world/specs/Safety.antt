@@ -1,8 +1,8 @@
 -- What is promised of every play, whatever comes to its nodes, forged bytes included. Out of memory and a refusal have
 -- no effect, a number that is told is that of a fault, and the nodes and the world keep to their limits.
 use Rattle.std.specs.Prelude.{◌≡◌, ℕ, ◌≤◌, List, [], ◌∷◌, length, slice_get, take, Some, Result, Ok, Err}
-use Rattle.at_event.specs.declared.report.Report.{Report}
-use Rattle.at_event.specs.declared.report.Report.TheVariants as report
+use Rattle.at_event.specs.declared.Report.{Report}
+use Rattle.at_event.specs.declared.Report.TheVariants as report
 use Rattle.at_node.specs.Nodes.{NodeState}
 use Rattle.at_setup.specs.declared.event.Event.{Event}
 use Rattle.at_setup.specs.declared.event.Event.TheVariants as event

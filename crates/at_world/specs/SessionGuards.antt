@@ -1,7 +1,7 @@
 -- What the machine knows of the sessions of the nodes' users (Inside AppleTalk, ZIP, "GetZoneList", "GetLocalZones";
 -- NBP, "Name lookup").
 use Rattle.std.specs.Prelude.{◌≡◌, ℕ, ◌==◌, if◌then◌else◌}
-use Rattle.at_event.specs.declared.report.Report.{Report}
+use Rattle.at_event.specs.declared.Report.{Report}
 use Rattle.at_session.specs.Sessions.{SessionState, new_session}
 use Rattle.at_steps.specs.SessionSteps.{IsStep}
 use Rattle.at_world.specs.Events.{act_of, node_of}

@@ -7,12 +7,12 @@ use Rattle.at_adsp.specs.Connections.{begun}
 use Rattle.at_adsp.specs.Meetings.{OpensWith, ReadsWith}
 use Rattle.at_adsp.specs.Streams.{Stream, Deed, Wrote, Read as HasRead, GaveUp, has_number, with_deed}
 use Rattle.at_event.specs.Kinds.{Kind, Adsp}
-use Rattle.at_event.specs.declared.event.Call.TheVariants.{Streams}
-use Rattle.at_event.specs.declared.calls.StreamCall.TheVariants.{Open, Connect, Write, Read, Reset}
-use Rattle.at_event.specs.declared.report.Report.{Report}
-use Rattle.at_event.specs.declared.report.Report.TheVariants as report
-use Rattle.at_event.specs.declared.reports.StreamReport.{StreamReport}
-use Rattle.at_event.specs.declared.reports.StreamReport.TheVariants as adsp_report
+use Rattle.at_event.specs.declared.Call.TheVariants.{Streams}
+use Rattle.at_event.specs.declared.streams.StreamCall.TheVariants.{Open, Connect, Write, Read, Reset}
+use Rattle.at_event.specs.declared.Report.{Report}
+use Rattle.at_event.specs.declared.Report.TheVariants as report
+use Rattle.at_event.specs.declared.streams.StreamReport.{StreamReport}
+use Rattle.at_event.specs.declared.streams.StreamReport.TheVariants as adsp_report
 use Rattle.at_stream_socket.specs.Sockets.{streams_at}
 use Rattle.at_session.specs.Sessions.{address_at}
 use Rattle.at_steps.specs.StreamSteps.{is_plain_report}

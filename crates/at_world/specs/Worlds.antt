@@ -6,8 +6,8 @@ use Rattle.at_ddp.specs.Datagrams.{Posted}
 use Rattle.at_ddp.specs.Tables.{replaced}
 use Rattle.at_node.specs.declared.numbers.Draw.{Draw}
 use Rattle.at_node.specs.declared.numbers.Input.{Input}
-use Rattle.at_event.specs.declared.report.Report.{Report}
-use Rattle.at_event.specs.Calls.{IsCall}
+use Rattle.at_event.specs.declared.Report.{Report}
+use Rattle.at_event.specs.Kinds.{IsCall}
 use Rattle.at_node.specs.Numbers.{Carries, DrawsHearing, drawn_by, draw_of, holds}
 use Rattle.at_node.specs.Numbers.{Draws as DrawsFor}
 use Rattle.at_node.specs.Nodes.{NodeState, called, timed}

@@ -1,6 +1,6 @@
 //! How the proofs tell a run from a world: by the history of its network. The function does nothing.
 ghost use Rattle.std.specs.Prelude.{◌≡◌, List, true};
-ghost use Rattle.at_event.specs.declared.report.Report.{Report};
+ghost use Rattle.at_event.specs.declared.Report.{Report};
 ghost use Rattle.at_atp.specs.Network.{Happening};
 ghost use Rattle.at_world.specs.Agreements.{HasAgreeingRun};
 ghost use Rattle.at_world.specs.Events.{NoForge};

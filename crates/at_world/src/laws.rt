@@ -1,6 +1,6 @@
 //! Laws of worlds. The functions do nothing: each contract is a law.
 ghost use Rattle.std.specs.Prelude.{◌≡◌, ◌≤◌, List, [], length, true};
-ghost use Rattle.at_event.specs.declared.report.Report.{Report};
+ghost use Rattle.at_event.specs.declared.Report.{Report};
 ghost use Rattle.at_world.specs.Agreements.{HasAgreeingRun};
 ghost use Rattle.at_world.specs.ExactlyOnce.{AllLive, RunsOnce, onto};
 ghost use Rattle.at_world.specs.Events.{NoForge};

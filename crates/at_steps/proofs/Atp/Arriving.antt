@@ -26,7 +26,7 @@ use Rattle.at_zip.specs.Tables.{Tables}
 use Rattle.at_transaction_socket.specs.ZoneSocket.{AtZones}
 use Rattle.at_transaction_socket.specs.ZoneReading.{is_reading}
 use Rattle.at_node.specs.declared.numbers.Draw.TheVariants.{Tid}
-use Rattle.at_event.specs.declared.report.Report.TheVariants as report
+use Rattle.at_event.specs.declared.Report.TheVariants as report
 use Rattle.at_event.specs.declared.service.Reply.{Reply}
 use Rattle.at_event.specs.declared.service.Reply.TheVariants as reply
 use Rattle.at_steps.specs.Acts.{Gets}

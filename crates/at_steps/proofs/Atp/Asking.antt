@@ -20,7 +20,7 @@ use Rattle.at_zip.specs.Zones.{table_fault}
 use Rattle.at_zip.specs.declared.request.Which.{Which}
 use Rattle.at_zip.specs.declared.request.Which.TheVariants.{All, Local}
 use Rattle.at_zip.specs.declared.fault.ZipFault.{ZipFault}
-use Rattle.at_event.specs.Calls.{IsCall}
+use Rattle.at_event.specs.Kinds.{IsCall}
 use Rattle.at_node.specs.Numbers.{drawn_by}
 use Rattle.at_transaction_socket.specs.AtpParts.{Reading, asking, zones_at}
 use Rattle.at_node.specs.Nodes.{with_atp, NodeState}
@@ -30,11 +30,11 @@ use Rattle.at_event.specs.Seats.{at_socket}
 use Rattle.at_transaction_socket.specs.ZoneReading.{reading_begins, zones_called, page_transaction}
 use Rattle.at_transaction_socket.specs.ZoneSocket.{set_zones_called, table_set}
 use Rattle.at_node.specs.declared.numbers.Draw.TheVariants.{Tid}
-use Rattle.at_event.specs.declared.event.Call.TheVariants.{Transactions, Zones}
-use Rattle.at_event.specs.declared.calls.TransactionCall.TheVariants.{Ask}
-use Rattle.at_event.specs.declared.calls.ZoneCall.TheVariants as zone
-use Rattle.at_event.specs.declared.report.Report.{Report}
-use Rattle.at_event.specs.declared.report.Report.TheVariants as report
+use Rattle.at_event.specs.declared.Call.TheVariants.{Transactions, Zones}
+use Rattle.at_event.specs.declared.transactions.TransactionCall.TheVariants.{Ask}
+use Rattle.at_event.specs.declared.zones.ZoneCall.TheVariants as zone
+use Rattle.at_event.specs.declared.Report.{Report}
+use Rattle.at_event.specs.declared.Report.TheVariants as report
 use Rattle.at_steps.specs.Acts.{Calls}
 use Rattle.at_steps.specs.AtpHappenings.{Stands, IsOpen}
 use Rattle.at_steps.specs.AtpSteps.{Begins, Reads, Sets}

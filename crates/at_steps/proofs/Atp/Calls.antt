@@ -17,18 +17,18 @@ use Rattle.at_atp.specs.Network as network
 use Rattle.at_ddp.specs.Posts.{put, stamped}
 use Rattle.at_atp.specs.Network.{Network, Happening, after, done}
 use Rattle.at_atp.specs.Transactions.{Asked}
-use Rattle.at_event.specs.Calls.{IsCall}
+use Rattle.at_event.specs.Kinds.{IsCall}
 use Rattle.at_transaction_socket.specs.AtpParts.{serving}
 use Rattle.at_event.specs.Kinds.{kind_of_call}
 use Rattle.at_node.specs.Nodes.{with_atp, NodeState, called}
 use Rattle.at_event.specs.Outcomes.{over, idle, refused_as}
 use Rattle.at_transaction_socket.specs.ServiceSocket.{answered_with}
-use Rattle.at_event.specs.declared.event.Call.{Call}
-use Rattle.at_event.specs.declared.event.Call.TheVariants.{Transactions, Zones, Names, Streams, Session}
-use Rattle.at_event.specs.declared.calls.TransactionCall.TheVariants.{Ask, Answer}
-use Rattle.at_event.specs.declared.calls.ZoneCall.TheVariants as zone
-use Rattle.at_event.specs.declared.report.Report.TheVariants as report
-use Rattle.at_event.specs.declared.reports.TransactionReport.TheVariants as atp_report
+use Rattle.at_event.specs.declared.Call.{Call}
+use Rattle.at_event.specs.declared.Call.TheVariants.{Transactions, Zones, Names, Streams, Session}
+use Rattle.at_event.specs.declared.transactions.TransactionCall.TheVariants.{Ask, Answer}
+use Rattle.at_event.specs.declared.zones.ZoneCall.TheVariants as zone
+use Rattle.at_event.specs.declared.Report.TheVariants as report
+use Rattle.at_event.specs.declared.transactions.TransactionReport.TheVariants as atp_report
 use Rattle.at_steps.specs.Acts.{Act, Calls, is_atp}
 use Rattle.at_steps.specs.AtpSteps as steps
 use Rattle.at_steps.specs.AtpHappenings.{Stands}

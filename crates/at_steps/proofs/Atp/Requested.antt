@@ -19,9 +19,9 @@ use Rattle.at_transaction_socket.specs.Responders.{released_report}
 use Rattle.at_event.specs.Services.{is_asked}
 use Rattle.at_transaction_socket.specs.ServiceSocket.{service_taken, handed_up, at_service, service_asked}
 use Rattle.at_transaction_socket.specs.ServiceSocket.{service_released}
-use Rattle.at_event.specs.declared.report.Report.{Report}
-use Rattle.at_event.specs.declared.report.Report.TheVariants as report
-use Rattle.at_event.specs.declared.reports.TransactionReport.TheVariants as atp_report
+use Rattle.at_event.specs.declared.Report.{Report}
+use Rattle.at_event.specs.declared.Report.TheVariants as report
+use Rattle.at_event.specs.declared.transactions.TransactionReport.TheVariants as atp_report
 use Rattle.at_event.specs.declared.service.Reply.{Reply}
 use Rattle.at_event.specs.declared.service.Reply.TheVariants as reply
 use Rattle.at_steps.specs.Acts.{Gets}

@@ -29,10 +29,10 @@ use Rattle.at_event.specs.Outcomes.{over, Outcome, idle}
 use Rattle.at_transaction_socket.specs.Responders.{released_report}
 use Rattle.at_transaction_socket.specs.ZoneSocket.{page_packet, zone_served, zone_taken, at_zones, zone_asked}
 use Rattle.at_transaction_socket.specs.ZoneSocket.{zone_released}
-use Rattle.at_event.specs.declared.report.Report.{Report}
-use Rattle.at_event.specs.declared.report.Report.TheVariants as report
-use Rattle.at_event.specs.declared.reports.TransactionReport.TheVariants as atp_report
-use Rattle.at_event.specs.declared.reports.ZoneReport.TheVariants as zip_report
+use Rattle.at_event.specs.declared.Report.{Report}
+use Rattle.at_event.specs.declared.Report.TheVariants as report
+use Rattle.at_event.specs.declared.transactions.TransactionReport.TheVariants as atp_report
+use Rattle.at_event.specs.declared.zones.ZoneReport.TheVariants as zip_report
 use Rattle.at_steps.specs.Acts.{Gets}
 use Rattle.at_steps.specs.AtpReports.{AsksFrom}
 use Rattle.at_steps.specs.AtpSteps as steps

@@ -25,8 +25,8 @@ use Rattle.at_node.specs.NameHearing.{HearsName, HearsNames, HearsNbpFault, told
 use Rattle.at_node.specs.Nodes.{NodeState, with_names}
 use Rattle.at_event.specs.Outcomes.{Outcome, Over, idle, over}
 use Rattle.at_event.specs.Seats.{is_for_all, is_mine}
-use Rattle.at_event.specs.declared.report.Report.{Report}
-use Rattle.at_event.specs.declared.report.Report.TheVariants as report
+use Rattle.at_event.specs.declared.Report.{Report}
+use Rattle.at_event.specs.declared.Report.TheVariants as report
 use Rattle.at_event.specs.declared.service.Reply.{Reply}
 use Rattle.at_steps.specs.Acts.{Gets}
 use Rattle.at_steps.specs.NameHappenings.{Stands, is_names_socket}

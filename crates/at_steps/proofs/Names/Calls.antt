@@ -19,7 +19,8 @@ use Rattle.at_name_socket.specs.Steps.{StandsLawfully}
 use Rattle.at_name_socket.specs.declared.claim.Claim.{Claim as Claimed}
 use Rattle.at_name_socket.specs.declared.step.Finished.{Finished}
 use Rattle.at_name_socket.specs.declared.step.Finished.TheVariants as finished
-use Rattle.at_event.specs.Calls.{IsCall, IsZone}
+use Rattle.at_event.specs.Kinds.{IsCall}
+use Rattle.at_event.specs.Kinds.Names.{IsZone}
 use Rattle.at_node.specs.Numbers.{drawn_by}
 use Rattle.at_event.specs.Kinds.{kind_of_call}
 use Rattle.at_node.specs.NameCalls.{claimed_as, finish_called, finished_as, found_as, refused_by, registered_as}
@@ -27,11 +28,11 @@ use Rattle.at_node.specs.NameCalls.{told_of, unregistered_as, without_name}
 use Rattle.at_session.specs.Sessions.{SessionState, finds_kept, pattern_asked, zone_asked, zone_picked}
 use Rattle.at_node.specs.Nodes.{NodeState, called, with_names}
 use Rattle.at_event.specs.Outcomes.{over}
-use Rattle.at_event.specs.declared.event.Call.{Call}
-use Rattle.at_event.specs.declared.event.Call.TheVariants.{Transactions, Zones, Names, Streams, Session}
-use Rattle.at_event.specs.declared.calls.NameCall.TheVariants.{Find, Claim, Finish, Register, Unregister}
-use Rattle.at_event.specs.declared.report.Report.TheVariants as report
-use Rattle.at_event.specs.declared.reports.NameReport.TheVariants as nbp_report
+use Rattle.at_event.specs.declared.Call.{Call}
+use Rattle.at_event.specs.declared.Call.TheVariants.{Transactions, Zones, Names, Streams, Session}
+use Rattle.at_event.specs.declared.names.NameCall.TheVariants.{Find, Claim, Finish, Register, Unregister}
+use Rattle.at_event.specs.declared.Report.TheVariants as report
+use Rattle.at_event.specs.declared.names.NameReport.TheVariants as nbp_report
 use Rattle.at_steps.specs.Acts.{Calls, is_nbp}
 use Rattle.at_steps.specs.NameHappenings.{Stands}
 use Rattle.at_steps.specs.NameSteps.{Claims, Finds, HasClaimed, HasLost, Looks, Registers, Unregisters}

@@ -21,8 +21,8 @@ use Rattle.at_node.specs.NameCalls.{sent_of}
 use Rattle.at_node.specs.Nodes.{NodeState, with_names}
 use Rattle.at_event.specs.Outcomes.{Outcome, idle, refused_as}
 use Rattle.at_node.specs.declared.numbers.Draw.{Draw}
-use Rattle.at_event.specs.declared.report.Report.{Report}
-use Rattle.at_event.specs.declared.report.Report.TheVariants as report
+use Rattle.at_event.specs.declared.Report.{Report}
+use Rattle.at_event.specs.declared.Report.TheVariants as report
 use Rattle.at_session.specs.Sessions.{SessionState}
 use Rattle.at_steps.specs.Acts.{Act}
 use Rattle.at_steps.specs.NameHappenings.{BeginsBy, Happens, IsHappening, Stands, is_names_socket, name_coding}

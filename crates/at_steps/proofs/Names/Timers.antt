@@ -10,12 +10,12 @@ use Rattle.at_event.specs.Kinds.{kind_of_timer}
 use Rattle.at_node.specs.NameCalls.{asked_again}
 use Rattle.at_node.specs.Nodes.{NodeState, timed, with_names}
 use Rattle.at_event.specs.Outcomes.{over}
-use Rattle.at_event.specs.declared.report.Report.TheVariants as report
-use Rattle.at_event.specs.declared.event.Timer.{Timer}
-use Rattle.at_event.specs.declared.event.Timer.TheVariants as timer
-use Rattle.at_event.specs.declared.timers.TransactionTimer.TheVariants as atp_timer
-use Rattle.at_event.specs.declared.timers.NameTimer.TheVariants as nbp_timer
-use Rattle.at_event.specs.declared.timers.StreamTimer.TheVariants as adsp_timer
+use Rattle.at_event.specs.declared.Report.TheVariants as report
+use Rattle.at_event.specs.declared.Timer.{Timer}
+use Rattle.at_event.specs.declared.Timer.TheVariants as timer
+use Rattle.at_event.specs.declared.transactions.TransactionTimer.TheVariants as atp_timer
+use Rattle.at_event.specs.declared.names.NameTimer.TheVariants as nbp_timer
+use Rattle.at_event.specs.declared.streams.StreamTimer.TheVariants as adsp_timer
 use Rattle.at_steps.specs.Acts.{Fires, is_nbp}
 use Rattle.at_steps.specs.NameHappenings.{Stands}
 use Rattle.at_steps.specs.NameSteps.{Plain}

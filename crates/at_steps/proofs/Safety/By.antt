@@ -6,11 +6,14 @@ use Rattle.at_atp_frame.specs.Frames.{Content as Frame, spelled, spelled_all}
 use Rattle.at_zip.specs.Fault as zip
 use Rattle.at_zip.specs.declared.fault.ZipFault.{ZipFault}
 use Rattle.at_event.specs.Outcomes.{Outcome, Outgoing, idle, over, refused_as, sent_by}
-use Rattle.at_event.specs.declared.report.Report.{Report}
-use Rattle.at_event.specs.declared.report.Report.TheVariants as report
-use Rattle.at_event.specs.declared.reports.ZoneReport.TheVariants as zip_report
+use Rattle.at_event.specs.declared.Report.{Report}
+use Rattle.at_event.specs.declared.Report.TheVariants as report
+use Rattle.at_event.specs.declared.zones.ZoneReport.TheVariants as zip_report
 use Rattle.at_node.specs.Nodes.{NodeState}
-use Rattle.at_steps.specs.Safety.{IsSafe, IsTrueOf, OfZones, Place, Reason, number_of, number_told}
+use Rattle.at_steps.specs.Safety.{IsSafe, IsTrueOf, Place, number_told}
+use Rattle.at_event.specs.declared.Reason.TheVariants.{OfZones}
+use Rattle.at_event.specs.declared.Reason.{Reason}
+use Rattle.at_event.specs.Kinds.{number_of}
 
 -- ---- how much is sent
 

@@ -22,14 +22,15 @@ use Rattle.at_name_socket.specs.declared.step.Finished.TheVariants as finished
 use Rattle.at_name_socket.specs.declared.step.Heard.{Heard}
 use Rattle.at_name_socket.specs.declared.step.Heard.TheVariants as heard
 use Rattle.at_event.specs.Outcomes.{Outcome, idle}
-use Rattle.at_event.specs.declared.report.Report.TheVariants as report
+use Rattle.at_event.specs.declared.Report.TheVariants as report
 use Rattle.at_node.specs.Limits.{IsWithin}
 use Rattle.at_node.specs.NameCalls.{asked_again, claim_called, claimed_as, find_called, finish_called, finished_as}
 use Rattle.at_node.specs.NameCalls.{found_as, lookup_fired, refused_by, register_called, registered_as, sent_of}
 use Rattle.at_node.specs.NameCalls.{told_of, unregister_called, unregistered_as}
 use Rattle.at_node.specs.NameHearing.{HearsName, HearsNames, HearsNbpFault, told_by}
 use Rattle.at_node.specs.Nodes.{NodeState}
-use Rattle.at_steps.specs.Safety.{IsSafe, IsTrueOf, OfNames, Place, number_told}
+use Rattle.at_steps.specs.Safety.{IsSafe, IsTrueOf, Place, number_told}
+use Rattle.at_event.specs.declared.Reason.TheVariants.{OfNames}
 use Rattle.at_steps.proofs.Safety.By.{by, faulted, quiet, refused, sent_few}
 
 -- what the layers below promise: below 8 open lookups an identifier is free, and few packets are sent for one

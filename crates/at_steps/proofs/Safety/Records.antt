@@ -25,7 +25,8 @@ use Rattle.at_transaction_socket.specs.ServiceSocket.{answered_with}
 use Rattle.at_zip.specs.Tables.{Tables}
 use Rattle.at_zip.specs.declared.request.Which.{Which}
 use Rattle.at_transaction_socket.specs.ZoneSocket.{set_zones_called, table_set}
-use Rattle.at_steps.specs.Safety.{IsSafe, IsTrueOf, OfNodes, OfTransactions, OfZones, Place}
+use Rattle.at_steps.specs.Safety.{IsSafe, IsTrueOf, Place}
+use Rattle.at_event.specs.declared.Reason.TheVariants.{OfNodes, OfTransactions, OfZones}
 use Rattle.at_steps.proofs.Safety.By.{packets_few, quiet, refused}
 
 -- what the responder promises

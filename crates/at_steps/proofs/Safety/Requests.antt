@@ -20,9 +20,9 @@ use Rattle.at_zip.specs.Fault as zip
 use Rattle.at_zip.specs.declared.fault.ZipFault.{ZipFault}
 use Rattle.at_zip.specs.declared.fault.ZipFault.TheVariants.{TooManyZones}
 use Rattle.at_event.specs.Outcomes.{Outcome, idle, refused_as}
-use Rattle.at_event.specs.declared.report.Report.{Report}
-use Rattle.at_event.specs.declared.report.Report.TheVariants as report
-use Rattle.at_event.specs.declared.reports.ZoneReport.TheVariants as zip_report
+use Rattle.at_event.specs.declared.Report.{Report}
+use Rattle.at_event.specs.declared.Report.TheVariants as report
+use Rattle.at_event.specs.declared.zones.ZoneReport.TheVariants as zip_report
 use Rattle.at_event.specs.declared.fault.NodeFault.TheVariants as nodes
 use Rattle.at_transaction_socket.specs.AtpParts.{AtpState, Reading, after_heard, asking as asking_at, asks, packet_in}
 use Rattle.at_transaction_socket.specs.AtpParts.{tid_of}
@@ -33,7 +33,8 @@ use Rattle.at_transaction_socket.specs.ZoneReading.{AsksOn, ReadsPage, TakesPage
 use Rattle.at_transaction_socket.specs.ZoneReading.{names_read}
 use Rattle.at_zip.specs.declared.request.Which.{Which}
 use Rattle.at_transaction_socket.specs.ZoneReading.{page_transaction, reading_begins, table_read, zones_called}
-use Rattle.at_steps.specs.Safety.{Asking, IsPlaceOfCall, IsSafe, OfNodes, OfTransactions, Place, number_told}
+use Rattle.at_steps.specs.Safety.{Asking, IsPlaceOfCall, IsSafe, Place, number_told}
+use Rattle.at_event.specs.declared.Reason.TheVariants.{OfNodes, OfTransactions}
 use Rattle.at_steps.proofs.Safety.By.{by, packets_few, page_faulted, quiet, refused}
 
 -- below 32 open transactions a number is free

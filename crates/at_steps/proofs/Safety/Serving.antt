@@ -18,8 +18,8 @@ use Rattle.at_atp_responder.specs.declared.reception.Key.{Key}
 use Rattle.at_atp_responder.specs.declared.reception.Reception.{Reception}
 use Rattle.at_atp_responder.specs.declared.reception.Reception.TheVariants as reception
 use Rattle.at_event.specs.Outcomes.{Outcome, idle, refused_as, sent_by}
-use Rattle.at_event.specs.declared.report.Report.TheVariants as report
-use Rattle.at_event.specs.declared.reports.TransactionReport.TheVariants as atp_report
+use Rattle.at_event.specs.declared.Report.TheVariants as report
+use Rattle.at_event.specs.declared.transactions.TransactionReport.TheVariants as atp_report
 use Rattle.at_event.specs.declared.service.Reply.{Reply}
 use Rattle.at_event.specs.declared.service.Reply.TheVariants as reply
 use Rattle.at_transaction_socket.specs.AtpHearing.{AtSocket, AtpSocket, HearsAt, HearsAtp, Requester, Service}
@@ -32,7 +32,8 @@ use Rattle.at_transaction_socket.specs.ServiceSocket.{AtService, at_service, han
 use Rattle.at_zip.specs.Tables.{Tables, table_of}
 use Rattle.at_transaction_socket.specs.ZoneSocket.{AtZones, at_zones, page_packet, zone_served}
 use Rattle.at_transaction_socket.specs.ZoneSocket.{zone_taken}
-use Rattle.at_steps.specs.Safety.{IsSafe, IsTrueOf, OfTransactions, Place, Records, number_told}
+use Rattle.at_steps.specs.Safety.{IsSafe, IsTrueOf, Place, Records, number_told}
+use Rattle.at_event.specs.declared.Reason.TheVariants.{OfTransactions}
 use Rattle.at_steps.proofs.Safety.By.{by, faulted, packets_few, quiet, refused}
 use Rattle.at_steps.proofs.Safety.Records.{RecordLaws}
 use Rattle.at_steps.proofs.Safety.Requests.{heard_at_requester}

@@ -23,9 +23,9 @@ use Rattle.at_adsp_ends.specs.Calls.{wrote_some}
 use Rattle.at_adsp_ends.specs.Receiving.{received, settled}
 use Rattle.at_adsp_ends.specs.Tables.{Done, EndTable, IsId, SendsFew, by_id, freed, moved, next_id}
 use Rattle.at_event.specs.Outcomes.{Outcome, idle}
-use Rattle.at_event.specs.declared.report.Report.{Report}
-use Rattle.at_event.specs.declared.report.Report.TheVariants as report
-use Rattle.at_event.specs.declared.reports.StreamReport.TheVariants as adsp_report
+use Rattle.at_event.specs.declared.Report.{Report}
+use Rattle.at_event.specs.declared.Report.TheVariants as report
+use Rattle.at_event.specs.declared.streams.StreamReport.TheVariants as adsp_report
 use Rattle.at_event.specs.declared.fault.NodeFault.TheVariants as nodes
 use Rattle.at_node.specs.Limits.{IsWithin}
 use Rattle.at_node.specs.Nodes.{NodeState}
@@ -34,7 +34,8 @@ use Rattle.at_stream_socket.specs.Calls.{called, close_called, connect_called, l
 use Rattle.at_stream_socket.specs.Calls.{tick_fired, write_called}
 use Rattle.at_stream_socket.specs.Hearing.{HearsAdspFault, HearsSegment, HearsStreams, segment_heard}
 use Rattle.at_stream_socket.specs.Sockets.{answered, sent_of, streams_at, told_by, told_opening, told_read, told_wrote}
-use Rattle.at_steps.specs.Safety.{IsSafe, IsTrueOf, OfNodes, OfSegments, OfStreams, Place, number_told}
+use Rattle.at_steps.specs.Safety.{IsSafe, IsTrueOf, Place, number_told}
+use Rattle.at_event.specs.declared.Reason.TheVariants.{OfNodes, OfSegments, OfStreams}
 use Rattle.at_steps.proofs.Safety.By.{by, faulted, quiet, refused, sent_few}
 
 -- what the ends promise: below 16 an identifier is free, and few segments are sent

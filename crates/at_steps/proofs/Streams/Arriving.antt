@@ -22,9 +22,9 @@ use Rattle.at_adsp.specs.Streams.{Nothing}
 use Rattle.at_event.specs.Outcomes.{Outcome, Over, idle, over}
 use Rattle.at_adsp.specs.Meetings.{OpensWith}
 use Rattle.at_event.specs.Seats.{is_mine}
-use Rattle.at_event.specs.declared.report.Report.{Report}
-use Rattle.at_event.specs.declared.report.Report.TheVariants as report
-use Rattle.at_event.specs.declared.reports.StreamReport.TheVariants as adsp_report
+use Rattle.at_event.specs.declared.Report.{Report}
+use Rattle.at_event.specs.declared.Report.TheVariants as report
+use Rattle.at_event.specs.declared.streams.StreamReport.TheVariants as adsp_report
 use Rattle.at_event.specs.declared.service.Reply.{Reply}
 use Rattle.at_node.specs.Numbers.{drawn_by}
 use Rattle.at_node.specs.Hearing.{Hears, HearsIt}

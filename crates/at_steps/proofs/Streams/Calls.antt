@@ -24,16 +24,16 @@ use Rattle.at_adsp.specs.Network.{Setting, Writes, calls, calls_with, done, gave
 use Rattle.at_adsp.specs.Streams.{Deed, Nothing}
 use Rattle.at_adsp.specs.Streams as deeds
 use Rattle.at_nbp.specs.declared.find.Find.{Find as Found}
-use Rattle.at_event.specs.Calls.{IsCall}
+use Rattle.at_event.specs.Kinds.{IsCall}
 use Rattle.at_event.specs.Kinds.{kind_of_call}
 use Rattle.at_event.specs.Outcomes.{over, refused_as}
 use Rattle.at_event.specs.Seats.{at_socket}
-use Rattle.at_event.specs.declared.event.Call.{Call}
-use Rattle.at_event.specs.declared.event.Call.TheVariants.{Transactions, Zones, Names, Streams, Session}
-use Rattle.at_event.specs.declared.calls.StreamCall.TheVariants.{Open, Listen, Connect, Write, Read, Reset, Close}
-use Rattle.at_event.specs.declared.report.Report.{Report}
-use Rattle.at_event.specs.declared.report.Report.TheVariants as report
-use Rattle.at_event.specs.declared.reports.StreamReport.TheVariants as adsp_report
+use Rattle.at_event.specs.declared.Call.{Call}
+use Rattle.at_event.specs.declared.Call.TheVariants.{Transactions, Zones, Names, Streams, Session}
+use Rattle.at_event.specs.declared.streams.StreamCall.TheVariants.{Open, Listen, Connect, Write, Read, Reset, Close}
+use Rattle.at_event.specs.declared.Report.{Report}
+use Rattle.at_event.specs.declared.Report.TheVariants as report
+use Rattle.at_event.specs.declared.streams.StreamReport.TheVariants as adsp_report
 use Rattle.at_node.specs.Numbers.{drawn_by}
 use Rattle.at_node.specs.Nodes.{NodeState, called, with_streams}
 use Rattle.at_node.specs.declared.numbers.Draw.TheVariants.{Conn}

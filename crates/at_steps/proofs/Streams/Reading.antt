@@ -14,11 +14,11 @@ use Rattle.at_adsp.specs.Network.{AllTimely, Happening, Reads, Setting, after}
 use Rattle.at_adsp.specs.Orders.{ReadsInOrder}
 use Rattle.at_adsp.specs.Pairs.{HappensHere}
 use Rattle.at_event.specs.Outcomes.{refused_as}
-use Rattle.at_event.specs.declared.event.Call.TheVariants.{Streams}
-use Rattle.at_event.specs.declared.calls.StreamCall.TheVariants.{Read}
-use Rattle.at_event.specs.declared.report.Report.{Report}
-use Rattle.at_event.specs.declared.report.Report.TheVariants as report
-use Rattle.at_event.specs.declared.reports.StreamReport.TheVariants as adsp_report
+use Rattle.at_event.specs.declared.Call.TheVariants.{Streams}
+use Rattle.at_event.specs.declared.streams.StreamCall.TheVariants.{Read}
+use Rattle.at_event.specs.declared.Report.{Report}
+use Rattle.at_event.specs.declared.Report.TheVariants as report
+use Rattle.at_event.specs.declared.streams.StreamReport.TheVariants as adsp_report
 use Rattle.at_node.specs.Nodes.{NodeState, called}
 use Rattle.at_stream_socket.specs.Calls as sockets
 use Rattle.at_stream_socket.specs.Sockets.{streams_at, told_read}

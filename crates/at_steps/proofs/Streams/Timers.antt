@@ -21,14 +21,14 @@ use Rattle.at_adsp.specs.Network.{Happening, Network, Setting, Ticks, calls, don
 use Rattle.at_adsp.specs.Streams.{Nothing}
 use Rattle.at_event.specs.Kinds.{kind_of_timer}
 use Rattle.at_event.specs.Outcomes.{over}
-use Rattle.at_event.specs.declared.report.Report.{Report}
-use Rattle.at_event.specs.declared.report.Report.TheVariants as report
-use Rattle.at_event.specs.declared.reports.StreamReport.TheVariants as adsp_report
-use Rattle.at_event.specs.declared.event.Timer.{Timer}
-use Rattle.at_event.specs.declared.event.Timer.TheVariants as timer
-use Rattle.at_event.specs.declared.timers.TransactionTimer.TheVariants as atp_timer
-use Rattle.at_event.specs.declared.timers.NameTimer.TheVariants as nbp_timer
-use Rattle.at_event.specs.declared.timers.StreamTimer.TheVariants as adsp_timer
+use Rattle.at_event.specs.declared.Report.{Report}
+use Rattle.at_event.specs.declared.Report.TheVariants as report
+use Rattle.at_event.specs.declared.streams.StreamReport.TheVariants as adsp_report
+use Rattle.at_event.specs.declared.Timer.{Timer}
+use Rattle.at_event.specs.declared.Timer.TheVariants as timer
+use Rattle.at_event.specs.declared.transactions.TransactionTimer.TheVariants as atp_timer
+use Rattle.at_event.specs.declared.names.NameTimer.TheVariants as nbp_timer
+use Rattle.at_event.specs.declared.streams.StreamTimer.TheVariants as adsp_timer
 use Rattle.at_node.specs.Nodes.{NodeState, timed, with_streams}
 use Rattle.at_stream_socket.specs.Calls as sockets
 use Rattle.at_stream_socket.specs.Sockets.{told_by}

@@ -1,8 +1,8 @@
 //! The law of safety, whatever comes to a node. The function does nothing at run time.
 ghost use Rattle.std.specs.Prelude.{ℕ, List};
 ghost use Rattle.at_event.specs.Outcomes.{Outcome};
-ghost use Rattle.at_event.specs.declared.event.Call.{Call};
-ghost use Rattle.at_event.specs.declared.event.Timer.{Timer};
+ghost use Rattle.at_event.specs.declared.Call.{Call};
+ghost use Rattle.at_event.specs.declared.Timer.{Timer};
 ghost use Rattle.at_event.specs.declared.service.Reply.{Reply};
 ghost use Rattle.at_node.specs.Hearing.{Hears};
 ghost use Rattle.at_node.specs.Limits.{IsWithin};

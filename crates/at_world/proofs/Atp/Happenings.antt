@@ -5,7 +5,7 @@ use Rattle.at_atp.specs.Network.{NoneHolds, after, done}
 use Rattle.at_atp.specs.Transactions as atp
 use Rattle.at_zip.specs.Tables.{AreTables}
 use Rattle.at_transaction_socket.specs.AtpParts.{asking, serving, zones_at}
-use Rattle.at_event.specs.Calls.{IsCall}
+use Rattle.at_event.specs.Kinds.{IsCall}
 use Rattle.at_node.specs.Numbers.{IsTold, drawn_by, holds}
 use Rattle.at_node.specs.Hearing.{Hears}
 use Rattle.at_event.specs.Kinds.{Kind, Atp, kind_of_call, kind_of_timer, reporter_of}
@@ -13,9 +13,9 @@ use Rattle.at_node.specs.Nodes.{NodeState, called, timed}
 use Rattle.at_event.specs.Outcomes.{Outcome}
 use Rattle.at_event.specs.Services.{is_asked}
 use Rattle.at_node.specs.declared.numbers.Draw.TheVariants.{Tid}
-use Rattle.at_event.specs.declared.event.Call.{Call}
-use Rattle.at_event.specs.declared.report.Report.{Report}
-use Rattle.at_event.specs.declared.event.Timer.{Timer}
+use Rattle.at_event.specs.declared.Call.{Call}
+use Rattle.at_event.specs.declared.Report.{Report}
+use Rattle.at_event.specs.declared.Timer.{Timer}
 use Rattle.at_event.specs.declared.service.Reply.{Reply}
 use Rattle.at_event.specs.declared.service.Reply.TheVariants.{Later}
 use Rattle.at_steps.specs.Acts.{is_atp}

@@ -17,7 +17,7 @@ use Rattle.at_atp.specs.Askings.{Joins}
 use Rattle.at_atp.specs.HandUps.{draws}
 use Rattle.at_atp.specs.Network.{Network, Happening, Begins, Turns, after, done}
 use Rattle.at_atp.specs.Transactions.{Transaction, is_transaction, transaction_of, answered}
-use Rattle.at_event.specs.declared.report.Report.{Report}
+use Rattle.at_event.specs.declared.Report.{Report}
 use Rattle.at_steps.specs.AtpReports.{BeginsAs}
 use Rattle.at_zip.specs.Tables.{Tables}
 use Rattle.at_world.specs.Events.{act_of}

@@ -16,12 +16,12 @@ use Rattle.at_atp_frame.specs.Packets.{Packet}
 use Rattle.at_atp.specs.Transactions.{Transaction, transaction_of, answered}
 use Rattle.at_atp_responder.specs.declared.reception.Key.{Key}
 use Rattle.at_transaction_socket.specs.AtpParts.{asking}
-use Rattle.at_event.specs.declared.event.Call.TheVariants.{Transactions}
-use Rattle.at_event.specs.declared.calls.TransactionCall.TheVariants.{Answer}
-use Rattle.at_event.specs.declared.report.Report.{Report}
-use Rattle.at_event.specs.declared.report.Report.TheVariants as report
-use Rattle.at_event.specs.declared.reports.TransactionReport.TheVariants as atp_report
-use Rattle.at_event.specs.declared.reports.ZoneReport.TheVariants as zip_report
+use Rattle.at_event.specs.declared.Call.TheVariants.{Transactions}
+use Rattle.at_event.specs.declared.transactions.TransactionCall.TheVariants.{Answer}
+use Rattle.at_event.specs.declared.Report.{Report}
+use Rattle.at_event.specs.declared.Report.TheVariants as report
+use Rattle.at_event.specs.declared.transactions.TransactionReport.TheVariants as atp_report
+use Rattle.at_event.specs.declared.zones.ZoneReport.TheVariants as zip_report
 use Rattle.at_world.specs.ExactlyOnce.{Played, onto, since, CameFrom, HandsUp, IsGiven, IsPageFor, GivesBy, AllLive}
 use Rattle.at_world.specs.ExactlyOnce.{BeganOnce, EndsBy, EndsWith, IsOnce, RanOnce, RunsOnce}
 use Rattle.at_world.specs.Plays.{opening_world, Follows, IsPlay}

@@ -11,12 +11,12 @@ use Rattle.at_zip.specs.Tables.{table_of}
 use Rattle.at_zip.specs.declared.request.Which.{Which}
 use Rattle.at_transaction_socket.specs.AtpParts.{Reading as ZoneReading, asking, zones_at}
 use Rattle.at_node.specs.Nodes.{NodeState}
-use Rattle.at_event.specs.declared.event.Call.TheVariants.{Zones}
-use Rattle.at_event.specs.declared.calls.ZoneCall.TheVariants as zone
-use Rattle.at_event.specs.declared.report.Report.{Report}
-use Rattle.at_event.specs.declared.report.Report.TheVariants as report
-use Rattle.at_event.specs.declared.reports.TransactionReport.TheVariants as atp_report
-use Rattle.at_event.specs.declared.reports.ZoneReport.TheVariants as zip_report
+use Rattle.at_event.specs.declared.Call.TheVariants.{Zones}
+use Rattle.at_event.specs.declared.zones.ZoneCall.TheVariants as zone
+use Rattle.at_event.specs.declared.Report.{Report}
+use Rattle.at_event.specs.declared.Report.TheVariants as report
+use Rattle.at_event.specs.declared.transactions.TransactionReport.TheVariants as atp_report
+use Rattle.at_event.specs.declared.zones.ZoneReport.TheVariants as zip_report
 use Rattle.at_steps.specs.AtpHappenings.{sets_table}
 use Rattle.at_steps.specs.AtpSteps as steps
 use Rattle.at_steps.specs.AtpSteps.{Change, ComesToReading, BeginsReading, TurnsPage, EndsReading, FailsReading, Tells}

@@ -1,13 +1,13 @@
 -- The machine's zone tables after a step are those that the event and its report say.
 use Rattle.std.proofs.Common.{◌≡◌, refl, ap}
 use Rattle.at_event.specs.Kinds.{Kind, Nobody, Session, Atp, Nbp, Adsp, reporter_of}
-use Rattle.at_event.specs.declared.event.Call.TheVariants.{Transactions, Zones}
-use Rattle.at_event.specs.declared.calls.TransactionCall.TheVariants.{Ask, Answer}
-use Rattle.at_event.specs.declared.calls.ZoneCall.TheVariants as zone
-use Rattle.at_event.specs.declared.report.Report.{Report}
-use Rattle.at_event.specs.declared.report.Report.TheVariants as report
-use Rattle.at_event.specs.declared.reports.TransactionReport.TheVariants as atp_report
-use Rattle.at_event.specs.declared.reports.ZoneReport.TheVariants as zip_report
+use Rattle.at_event.specs.declared.Call.TheVariants.{Transactions, Zones}
+use Rattle.at_event.specs.declared.transactions.TransactionCall.TheVariants.{Ask, Answer}
+use Rattle.at_event.specs.declared.zones.ZoneCall.TheVariants as zone
+use Rattle.at_event.specs.declared.Report.{Report}
+use Rattle.at_event.specs.declared.Report.TheVariants as report
+use Rattle.at_event.specs.declared.transactions.TransactionReport.TheVariants as atp_report
+use Rattle.at_event.specs.declared.zones.ZoneReport.TheVariants as zip_report
 use Rattle.at_world.specs.AtpGuards.{AtpMachine, Says, StepBy}
 use Rattle.at_world.specs.Cables.{Cable}
 use Rattle.at_world.specs.Stories.{tables_by}

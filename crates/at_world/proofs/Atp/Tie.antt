@@ -15,7 +15,7 @@ use Rattle.at_world.proofs.Entries.{Entries, entries_both, entries_of}
 use Rattle.at_atp.specs.Network.{Network, Sent, Happening, Answers, Serves, NoneHolds, after, done, is_fresh, AllTimely}
 use Rattle.at_atp.specs.Transactions as atp
 use Rattle.at_zip.specs.Tables.{Tables, AreTables, table_of}
-use Rattle.at_event.specs.Calls.{IsCall}
+use Rattle.at_event.specs.Kinds.{IsCall}
 use Rattle.at_node.specs.Numbers.{Carries, drawn_by, holds}
 use Rattle.at_transaction_socket.specs.AtpParts.{Reading as ZoneReading, asking, serving, zones_at}
 use Rattle.at_node.specs.Hearing.{Hears}
@@ -25,11 +25,11 @@ use Rattle.at_event.specs.Outcomes.{Outcome, posted}
 use Rattle.at_event.specs.Services.{is_asked}
 use Rattle.at_node.specs.declared.numbers.Draw.{Draw}
 use Rattle.at_node.specs.declared.numbers.Draw.TheVariants.{Tid}
-use Rattle.at_event.specs.declared.event.Call.{Call}
-use Rattle.at_event.specs.declared.report.Report.{Report}
-use Rattle.at_event.specs.declared.report.Report.TheVariants as report
-use Rattle.at_event.specs.declared.reports.ZoneReport.TheVariants as zip_report
-use Rattle.at_event.specs.declared.event.Timer.{Timer}
+use Rattle.at_event.specs.declared.Call.{Call}
+use Rattle.at_event.specs.declared.Report.{Report}
+use Rattle.at_event.specs.declared.Report.TheVariants as report
+use Rattle.at_event.specs.declared.zones.ZoneReport.TheVariants as zip_report
+use Rattle.at_event.specs.declared.Timer.{Timer}
 use Rattle.at_event.specs.declared.service.Reply.{Reply}
 use Rattle.at_event.specs.declared.service.Reply.TheVariants.{Later}
 use Rattle.at_steps.specs.Acts.{Act, Calls, Fires, Gets, is_atp}

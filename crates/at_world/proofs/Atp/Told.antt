@@ -22,10 +22,10 @@ use Rattle.at_ddp.proofs.PostLemmas.{sent_at}
 use Rattle.at_atp.specs.Network.{Network, Sent, Happening, Takes, Serves, AllTimely, GivesAnswers, after}
 use Rattle.at_atp_responder.specs.Once.{same_key}
 use Rattle.at_atp_responder.specs.declared.reception.Key.{Key}
-use Rattle.at_event.specs.declared.report.Report.{Report}
-use Rattle.at_event.specs.declared.report.Report.TheVariants as report
-use Rattle.at_event.specs.declared.reports.TransactionReport.TheVariants as atp_report
-use Rattle.at_event.specs.declared.reports.ZoneReport.TheVariants as zip_report
+use Rattle.at_event.specs.declared.Report.{Report}
+use Rattle.at_event.specs.declared.Report.TheVariants as report
+use Rattle.at_event.specs.declared.transactions.TransactionReport.TheVariants as atp_report
+use Rattle.at_event.specs.declared.zones.ZoneReport.TheVariants as zip_report
 use Rattle.at_zip.specs.Tables.{Tables}
 use Rattle.at_world.specs.ExactlyOnce.{Played, onto, CameFrom, HandsUp, Lives, AllLive}
 use Rattle.at_world.specs.Sents.{SentDatagram}

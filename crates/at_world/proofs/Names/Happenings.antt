@@ -2,19 +2,19 @@
 use Rattle.std.proofs.Common.{◌≡◌, inl, inr, ℕ, Bool, true, false, Some, refl, sym, subst, ◌∙◌}
 use Rattle.at_world.proofs.Names.LookupSteps.{same_names, step_becomes}
 use Rattle.at_name_socket.specs.Sockets.{Stays, open_at}
-use Rattle.at_event.specs.Calls.{IsCall}
+use Rattle.at_event.specs.Kinds.{IsCall}
 use Rattle.at_node.specs.Numbers.{drawn_by}
 use Rattle.at_node.specs.Hearing.{Hears}
 use Rattle.at_event.specs.Kinds.{Kind, Nbp, kind_of_call, kind_of_timer, reporter_of}
 use Rattle.at_node.specs.Nodes.{NodeState, called, timed}
 use Rattle.at_event.specs.Outcomes.{Outcome}
-use Rattle.at_event.specs.declared.event.Call.{Call}
-use Rattle.at_event.specs.declared.report.Report.{Report}
-use Rattle.at_event.specs.declared.report.Report.TheVariants as report
-use Rattle.at_event.specs.declared.reports.StreamReport.TheVariants as adsp_report
-use Rattle.at_event.specs.declared.reports.TransactionReport.TheVariants as atp_report
-use Rattle.at_event.specs.declared.reports.NameReport.TheVariants as nbp_report
-use Rattle.at_event.specs.declared.event.Timer.{Timer}
+use Rattle.at_event.specs.declared.Call.{Call}
+use Rattle.at_event.specs.declared.Report.{Report}
+use Rattle.at_event.specs.declared.Report.TheVariants as report
+use Rattle.at_event.specs.declared.streams.StreamReport.TheVariants as adsp_report
+use Rattle.at_event.specs.declared.transactions.TransactionReport.TheVariants as atp_report
+use Rattle.at_event.specs.declared.names.NameReport.TheVariants as nbp_report
+use Rattle.at_event.specs.declared.Timer.{Timer}
 use Rattle.at_event.specs.declared.service.Reply.{Reply}
 use Rattle.at_steps.specs.Acts.{is_nbp}
 use Rattle.at_steps.specs.NameHappenings.{Happens, IsForeign, IsHappening, Stands}

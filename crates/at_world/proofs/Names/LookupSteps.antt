@@ -20,11 +20,11 @@ use Rattle.at_name_socket.specs.declared.claim.Claim.{Claim as Claimed}
 use Rattle.at_node.specs.Numbers.{drawn_by}
 use Rattle.at_session.specs.Sessions.{pattern_asked}
 use Rattle.at_node.specs.Nodes.{NodeState}
-use Rattle.at_event.specs.declared.event.Call.TheVariants.{Names}
-use Rattle.at_event.specs.declared.calls.NameCall.TheVariants.{Find, Claim, Finish, Register, Unregister}
-use Rattle.at_event.specs.declared.report.Report.{Report}
-use Rattle.at_event.specs.declared.report.Report.TheVariants as report
-use Rattle.at_event.specs.declared.reports.NameReport.TheVariants as nbp_report
+use Rattle.at_event.specs.declared.Call.TheVariants.{Names}
+use Rattle.at_event.specs.declared.names.NameCall.TheVariants.{Find, Claim, Finish, Register, Unregister}
+use Rattle.at_event.specs.declared.Report.{Report}
+use Rattle.at_event.specs.declared.Report.TheVariants as report
+use Rattle.at_event.specs.declared.names.NameReport.TheVariants as nbp_report
 use Rattle.at_steps.specs.NameSteps as steps
 use Rattle.at_steps.specs.NameSteps.{Change, IsOpen, IsPlain, IsStep}
 use Rattle.at_world.specs.Cables.{Cable}

@@ -19,16 +19,16 @@ use Rattle.at_name_socket.specs.NameSockets.{names_of, own_zone}
 use Rattle.at_name_socket.specs.Sockets.{Change, IsSocket, changed, open_at}
 use Rattle.at_name_socket.specs.Steps as socket_steps
 use Rattle.at_name_socket.specs.declared.neighbour.Neighbour.{Neighbour}
-use Rattle.at_event.specs.Calls.{IsCall}
+use Rattle.at_event.specs.Kinds.{IsCall}
 use Rattle.at_node.specs.Numbers.{Carries, drawn_by}
 use Rattle.at_node.specs.Hearing.{Hears}
 use Rattle.at_event.specs.Kinds.{kind_of_call, kind_of_timer, reporter_of}
 use Rattle.at_node.specs.Nodes.{NodeState, called, timed}
 use Rattle.at_event.specs.Outcomes.{Outcome}
 use Rattle.at_node.specs.declared.numbers.Draw.TheVariants.{Lookup as Identifier}
-use Rattle.at_event.specs.declared.event.Call.{Call}
-use Rattle.at_event.specs.declared.report.Report.{Report}
-use Rattle.at_event.specs.declared.event.Timer.{Timer}
+use Rattle.at_event.specs.declared.Call.{Call}
+use Rattle.at_event.specs.declared.Report.{Report}
+use Rattle.at_event.specs.declared.Timer.{Timer}
 use Rattle.at_event.specs.declared.service.Reply.{Reply}
 use Rattle.at_steps.specs.Acts.{Act, Calls, Fires, Gets, is_nbp}
 use Rattle.at_steps.specs.NameHappenings.{Happens, IsForeign, IsHappening, Stands, is_names_socket, name_coding}

@@ -5,17 +5,17 @@ use Rattle.std.specs.List.{AllByRecursion}
 use Rattle.std.proofs.lemmas.Bool.{eq-eqb, false≢true}
 use Rattle.at_world.proofs.Names.LookupSteps.{looked_up}
 use Rattle.at_name_socket.specs.NameSockets.{SocketState}
-use Rattle.at_event.specs.Calls.{IsCall}
+use Rattle.at_event.specs.Kinds.{IsCall}
 use Rattle.at_event.specs.Outcomes.{Outcome, posted}
-use Rattle.at_event.specs.declared.event.Call.{Call}
-use Rattle.at_event.specs.declared.event.Call.TheVariants.{Names, Session}
-use Rattle.at_event.specs.declared.calls.NameCall.TheVariants.{Finish}
-use Rattle.at_event.specs.declared.calls.SessionCall.TheVariants.{Pick}
-use Rattle.at_event.specs.declared.report.Report.{Report}
-use Rattle.at_event.specs.declared.report.Report.TheVariants as report
-use Rattle.at_event.specs.declared.reports.ZoneReport.TheVariants as zip_report
-use Rattle.at_event.specs.declared.reports.NameReport.TheVariants as nbp_report
-use Rattle.at_event.specs.declared.event.Timer.{Timer}
+use Rattle.at_event.specs.declared.Call.{Call}
+use Rattle.at_event.specs.declared.Call.TheVariants.{Names, Session}
+use Rattle.at_event.specs.declared.names.NameCall.TheVariants.{Finish}
+use Rattle.at_event.specs.declared.session.SessionCall.TheVariants.{Pick}
+use Rattle.at_event.specs.declared.Report.{Report}
+use Rattle.at_event.specs.declared.Report.TheVariants as report
+use Rattle.at_event.specs.declared.zones.ZoneReport.TheVariants as zip_report
+use Rattle.at_event.specs.declared.names.NameReport.TheVariants as nbp_report
+use Rattle.at_event.specs.declared.Timer.{Timer}
 use Rattle.at_event.specs.declared.service.Reply.{Reply}
 use Rattle.at_node.specs.Hearing.{Hears}
 use Rattle.at_node.specs.Nodes.{NodeState, called, timed}

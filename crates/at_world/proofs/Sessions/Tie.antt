@@ -1,7 +1,7 @@
 -- What ties a world to what the machine knows of the sessions of the nodes' users.
 use Rattle.std.proofs.Common.{◌≡◌, ℕ, Some}
 use Rattle.std.specs.List.{AllByRecursion}
-use Rattle.at_event.specs.Calls.{IsZone}
+use Rattle.at_event.specs.Kinds.Names.{IsZone}
 use Rattle.at_node.specs.Nodes.{NodeState}
 use Rattle.at_session.specs.Sessions.{SessionState}
 use Rattle.at_steps.specs.StreamHappenings.{IsOpenable}

@@ -3,16 +3,16 @@ use Rattle.std.proofs.Common.{◌≡◌, inl, inr, ℕ, Bool, true, false, ◌�
 use Rattle.std.specs.List.{list_any}
 use Rattle.at_adsp.specs.Connections.{streams}
 use Rattle.at_adsp.specs.Network.{Reads, after, done}
-use Rattle.at_event.specs.Calls.{IsCall}
+use Rattle.at_event.specs.Kinds.{IsCall}
 use Rattle.at_event.specs.Kinds.{Kind, Adsp, kind_of_call, kind_of_timer, reporter_of}
 use Rattle.at_event.specs.Outcomes.{Outcome}
-use Rattle.at_event.specs.declared.event.Call.{Call}
-use Rattle.at_event.specs.declared.event.Call.TheVariants.{Streams}
-use Rattle.at_event.specs.declared.calls.StreamCall.TheVariants.{Read}
-use Rattle.at_event.specs.declared.report.Report.{Report}
-use Rattle.at_event.specs.declared.report.Report.TheVariants as report
-use Rattle.at_event.specs.declared.reports.StreamReport.TheVariants as adsp_report
-use Rattle.at_event.specs.declared.event.Timer.{Timer}
+use Rattle.at_event.specs.declared.Call.{Call}
+use Rattle.at_event.specs.declared.Call.TheVariants.{Streams}
+use Rattle.at_event.specs.declared.streams.StreamCall.TheVariants.{Read}
+use Rattle.at_event.specs.declared.Report.{Report}
+use Rattle.at_event.specs.declared.Report.TheVariants as report
+use Rattle.at_event.specs.declared.streams.StreamReport.TheVariants as adsp_report
+use Rattle.at_event.specs.declared.Timer.{Timer}
 use Rattle.at_event.specs.declared.service.Reply.{Reply}
 use Rattle.at_adsp.specs.Meetings.{ReadsWith}
 use Rattle.at_adsp.specs.Orders.{ReadsInOrder}

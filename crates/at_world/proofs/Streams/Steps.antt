@@ -25,14 +25,14 @@ use Rattle.at_adsp_ends.specs.Tables as ends
 use Rattle.at_adsp_ends.specs.Tables.{Done, EndTable, by_id}
 use Rattle.at_event.specs.Kinds.{reporter_of}
 use Rattle.at_event.specs.Outcomes.{Outcome}
-use Rattle.at_event.specs.declared.event.Call.TheVariants.{Streams}
-use Rattle.at_event.specs.declared.calls.StreamCall.TheVariants.{Open, Listen, Connect, Write, Read, Reset, Close}
-use Rattle.at_event.specs.declared.report.Report.{Report}
-use Rattle.at_event.specs.declared.report.Report.TheVariants as report
-use Rattle.at_event.specs.declared.reports.StreamReport.{StreamReport}
-use Rattle.at_event.specs.declared.reports.StreamReport.TheVariants as adsp_report
-use Rattle.at_event.specs.declared.event.Timer.TheVariants as timer
-use Rattle.at_event.specs.declared.timers.StreamTimer.TheVariants as adsp_timer
+use Rattle.at_event.specs.declared.Call.TheVariants.{Streams}
+use Rattle.at_event.specs.declared.streams.StreamCall.TheVariants.{Open, Listen, Connect, Write, Read, Reset, Close}
+use Rattle.at_event.specs.declared.Report.{Report}
+use Rattle.at_event.specs.declared.Report.TheVariants as report
+use Rattle.at_event.specs.declared.streams.StreamReport.{StreamReport}
+use Rattle.at_event.specs.declared.streams.StreamReport.TheVariants as adsp_report
+use Rattle.at_event.specs.declared.Timer.TheVariants as timer
+use Rattle.at_event.specs.declared.streams.StreamTimer.TheVariants as adsp_timer
 use Rattle.at_node.specs.Nodes.{NodeState}
 use Rattle.at_steps.specs.StreamHappenings.{Happens, change, stream_coding}
 use Rattle.at_steps.specs.StreamSteps as steps

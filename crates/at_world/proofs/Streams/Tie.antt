@@ -21,16 +21,16 @@ use Rattle.at_ddp.specs.Protocols.{adsp_kind}
 use Rattle.at_world.proofs.Entries.{Entries}
 use Rattle.at_adsp.specs.Network.{AllTimely, Happening, NoneNames, Reads, Sent, Setting, after, dest_of, is_fresh}
 use Rattle.at_adsp.specs.Orders.{ReadsInOrder}
-use Rattle.at_event.specs.Calls.{IsCall}
+use Rattle.at_event.specs.Kinds.{IsCall}
 use Rattle.at_event.specs.Kinds.{kind_of_call, kind_of_timer}
 use Rattle.at_event.specs.Outcomes.{Outcome}
-use Rattle.at_event.specs.declared.event.Call.{Call}
-use Rattle.at_event.specs.declared.event.Call.TheVariants.{Streams}
-use Rattle.at_event.specs.declared.calls.StreamCall.TheVariants.{Read}
-use Rattle.at_event.specs.declared.report.Report.TheVariants as report
-use Rattle.at_event.specs.declared.reports.StreamReport.TheVariants as adsp_report
-use Rattle.at_event.specs.declared.report.Report.{Report}
-use Rattle.at_event.specs.declared.event.Timer.{Timer}
+use Rattle.at_event.specs.declared.Call.{Call}
+use Rattle.at_event.specs.declared.Call.TheVariants.{Streams}
+use Rattle.at_event.specs.declared.streams.StreamCall.TheVariants.{Read}
+use Rattle.at_event.specs.declared.Report.TheVariants as report
+use Rattle.at_event.specs.declared.streams.StreamReport.TheVariants as adsp_report
+use Rattle.at_event.specs.declared.Report.{Report}
+use Rattle.at_event.specs.declared.Timer.{Timer}
 use Rattle.at_event.specs.declared.service.Reply.{Reply}
 use Rattle.at_node.specs.Numbers.{Carries, drawn_by, holds}
 use Rattle.at_node.specs.Hearing.{Hears}

@@ -1,7 +1,7 @@
 use Rattle.std.proofs.Common.{◌≡◌, [], take}
 use Rattle.std.specs.List.{flat_map}
 use Rattle.at_print.specs.Printers.{Prints}
-use Rattle.at_print.specs.Timers.{timer_line}
+use Rattle.at_print.specs.Reports.{timer_line}
 use Rattle.at_held.proofs.timers.write_timers.Given as goal
 
 abbrev pub invariant-loop-timer : goal.invariant-loop-timer

@@ -1,6 +1,6 @@
 use Rattle.std.proofs.Common.{◌≡◌, ◌≤◌, ◌*◌, length, take}
 use Rattle.std.specs.List.{flat_map}
-use Rattle.at_print.specs.Reports.{glyph}
+use Rattle.at_print.specs.TextWords.{glyph}
 use Rattle.at_print.proofs.text_words.write_block.Given as goal
 
 abbrev pub invariant-loop-byte : goal.invariant-loop-byte

@@ -3,7 +3,7 @@ use Rattle.std.proofs.lemmas.Grind.{flat_map-append}
 use Rattle.std.proofs.lemmas.List.{take-append-drop}
 use Rattle.std.specs.List.{flat_map}
 use Rattle.at_print.specs.Printers.{Prints}
-use Rattle.at_print.specs.Reports.{glyph}
+use Rattle.at_print.specs.TextWords.{glyph}
 use Rattle.at_print.proofs.PrintLemmas.{Prints-trans}
 use Rattle.at_print.proofs.text_words.write_glyphs.Goals as goal
 

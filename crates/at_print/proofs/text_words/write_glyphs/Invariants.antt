@@ -1,7 +1,7 @@
 use Rattle.std.proofs.Common.{◌≡◌, ◌++◌, List, ℕ, length}
 use Rattle.std.specs.List.{flat_map}
 use Rattle.at_print.specs.Printers.{Prints}
-use Rattle.at_print.specs.Reports.{glyph}
+use Rattle.at_print.specs.TextWords.{glyph}
 use Rattle.at_print.proofs.text_words.write_glyphs.Given as goal
 
 abbrev pub decreases-loop-rest : goal.decreases-loop-rest

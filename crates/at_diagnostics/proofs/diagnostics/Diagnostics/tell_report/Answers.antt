@@ -3,11 +3,12 @@ use Rattle.std.specs.Prelude.{◌↔◌}
 use Rattle.at_diagnostics.specs.Diagnostics.{HasTold, file_of, printer_of}
 use Rattle.at_diagnostics.specs.Lines.{IsOneLine, refusal_told}
 use Rattle.at_diagnostics.specs.declared.diagnostics.Diagnostics.{Diagnostics}
-use Rattle.at_event.specs.declared.report.Report.{Report}
-use Rattle.at_event.specs.declared.report.Report.TheVariants.{Refused}
+use Rattle.at_event.specs.declared.Report.{Report}
+use Rattle.at_event.specs.declared.Report.TheVariants.{Refused}
 use Rattle.at_print.specs.Papers.{Page}
 use Rattle.at_print.specs.Printers.{Prints}
-use Rattle.at_steps.specs.Safety.{Reason, number_of}
+use Rattle.at_event.specs.declared.Reason.{Reason}
+use Rattle.at_event.specs.Kinds.{number_of}
 use Rattle.at_diagnostics.proofs.diagnostics.Diagnostics.tell_report.Goals as goal
 
 module _ {A W : Type 0} (page : W → Page) (r : Report A) (m at line : ℕ) (old new : Diagnostics W)

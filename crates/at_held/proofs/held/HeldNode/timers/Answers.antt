@@ -2,7 +2,7 @@ use Rattle.std.proofs.Common.{◌≡◌, ◌∙◌, [], ap, subst, sym}
 use Rattle.std.specs.Prelude.{IfOk}
 use Rattle.std.specs.List.{flat_map}
 use Rattle.at_node.specs.Timers.{timers_of}
-use Rattle.at_print.specs.Timers.{timer_line}
+use Rattle.at_print.specs.Reports.{timer_line}
 use Rattle.at_held.specs.Held.{HeldState}
 use Rattle.at_held.proofs.HandingLemmas.{nothing_placed}
 use Rattle.at_held.proofs.held.HeldNode.timers.Goals as goal

@@ -3,7 +3,7 @@ use Rattle.at_nbp.specs.Lookups.{search_of}
 use Rattle.at_name_socket.specs.NameSockets.{SocketState}
 use Rattle.at_node.specs.NameCalls.{lookup_fired}
 use Rattle.at_event.specs.Outcomes.{IsStep}
-use Rattle.at_event.specs.declared.report.Report.TheVariants.{Again}
+use Rattle.at_event.specs.declared.Report.TheVariants.{Again}
 use Rattle.at_node.proofs.NameLemmas.{again_sent}
 use Rattle.at_node.proofs.name_part.NamePart.ask_again.Goals as goal
 use Rattle.at_node.proofs.name_part.NamePart.ask_again.Goals.{in-Ok, in-Err}

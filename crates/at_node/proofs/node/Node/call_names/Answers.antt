@@ -2,9 +2,9 @@ use Rattle.std.proofs.Common.{refl, subst}
 use Rattle.at_node.specs.NameCalls.{register_called, unregister_called}
 use Rattle.at_node.specs.Nodes.{NodeState, called, with_names}
 use Rattle.at_event.specs.Outcomes.{IsStep}
-use Rattle.at_event.specs.declared.event.Call.{Call}
-use Rattle.at_event.specs.declared.event.Call.TheVariants.{Names}
-use Rattle.at_event.specs.declared.calls.NameCall.TheVariants.{Register, Unregister}
+use Rattle.at_event.specs.declared.Call.{Call}
+use Rattle.at_event.specs.declared.Call.TheVariants.{Names}
+use Rattle.at_event.specs.declared.names.NameCall.TheVariants.{Register, Unregister}
 use Rattle.at_event.proofs.OutcomeLemmas.{step_over}
 use Rattle.at_node.proofs.node.Node.call_names.Goals as goal
 

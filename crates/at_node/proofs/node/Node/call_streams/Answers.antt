@@ -1,8 +1,8 @@
 use Rattle.std.proofs.Common.{refl, subst}
 use Rattle.at_event.specs.Outcomes.{IsStep}
-use Rattle.at_event.specs.declared.event.Call.{Call}
-use Rattle.at_event.specs.declared.event.Call.TheVariants.{Streams}
-use Rattle.at_event.specs.declared.calls.StreamCall.TheVariants.{Listen}
+use Rattle.at_event.specs.declared.Call.{Call}
+use Rattle.at_event.specs.declared.Call.TheVariants.{Streams}
+use Rattle.at_event.specs.declared.streams.StreamCall.TheVariants.{Listen}
 use Rattle.at_node.specs.Nodes.{NodeState, called, with_streams}
 use Rattle.at_stream_socket.specs.Calls.{listen_called}
 use Rattle.at_event.proofs.OutcomeLemmas.{step_over}

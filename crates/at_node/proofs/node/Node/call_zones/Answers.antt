@@ -2,9 +2,9 @@ use Rattle.std.proofs.Common.{refl, subst}
 use Rattle.at_node.specs.Nodes.{NodeState, called, with_atp}
 use Rattle.at_event.specs.Outcomes.{IsStep}
 use Rattle.at_transaction_socket.specs.ZoneSocket.{set_zones_called}
-use Rattle.at_event.specs.declared.event.Call.{Call}
-use Rattle.at_event.specs.declared.event.Call.TheVariants.{Zones}
-use Rattle.at_event.specs.declared.calls.ZoneCall.TheVariants.{Set}
+use Rattle.at_event.specs.declared.Call.{Call}
+use Rattle.at_event.specs.declared.Call.TheVariants.{Zones}
+use Rattle.at_event.specs.declared.zones.ZoneCall.TheVariants.{Set}
 use Rattle.at_event.proofs.OutcomeLemmas.{step_over}
 use Rattle.at_node.proofs.node.Node.call_zones.Goals as goal
 

@@ -7,9 +7,9 @@ use Rattle.at_event.specs.Outcomes.{IsStep}
 use Rattle.at_event.specs.Services.{is_asked}
 use Rattle.at_transaction_socket.specs.Readings.{reading_of}
 use Rattle.at_transaction_socket.specs.declared.zone_reading.ZoneReading.{ZoneReading}
-use Rattle.at_event.specs.declared.report.Report.{Report}
-use Rattle.at_event.specs.declared.report.Report.TheVariants as report
-use Rattle.at_event.specs.declared.reports.ZoneReport.TheVariants as zip_report
+use Rattle.at_event.specs.declared.Report.{Report}
+use Rattle.at_event.specs.declared.Report.TheVariants as report
+use Rattle.at_event.specs.declared.zones.ZoneReport.TheVariants as zip_report
 use Rattle.at_event.proofs.OutcomeLemmas.{when_some}
 use Rattle.at_transaction_socket.proofs.ReadingLemmas.{ends_with_all, is_too_long, page_wanted}
 use Rattle.at_transaction_socket.proofs.atp_part.AtpPart.hear_names.Goals as goal

@@ -7,9 +7,9 @@ use Rattle.at_zip.specs.Page as pages
 use Rattle.at_transaction_socket.specs.AtpParts.{AtpState, after_heard}
 use Rattle.at_transaction_socket.specs.Readings.{reading_of}
 use Rattle.at_event.specs.Outcomes.{IsStep}
-use Rattle.at_event.specs.declared.report.Report.{Report}
-use Rattle.at_event.specs.declared.report.Report.TheVariants as report
-use Rattle.at_event.specs.declared.reports.ZoneReport.TheVariants as zip_report
+use Rattle.at_event.specs.declared.Report.{Report}
+use Rattle.at_event.specs.declared.Report.TheVariants as report
+use Rattle.at_event.specs.declared.zones.ZoneReport.TheVariants as zip_report
 use Rattle.at_event.proofs.OutcomeLemmas.{when_some}
 use Rattle.at_transaction_socket.proofs.FaultLemmas.{zip_number}
 use Rattle.at_transaction_socket.proofs.RequesterLemmas.{comes_fault, comes_page}

@@ -1,0 +1,102 @@
+//! How the reports and timers of names print.
+ghost use Rattle.std.specs.Prelude.{◌≤◌, ◌++◌, codes, length};
+ghost use Rattle.std.specs.List.{flat_map};
+ghost use Rattle.at_print.specs.Printers.{Prints};
+ghost use Rattle.at_print.specs.Reports.Names.{find_text, found_text, name_report_text, name_timer_text};
+
+use crate::name_lines::write_name;
+use crate::paper::Paper;
+use crate::part::Part;
+use crate::piece::{HEAD, Piece, TIMER, end_with_number, end_with_word};
+use crate::printer::Printer;
+use at_event::{NameReport, NameTimer};
+use at_nbp::Find;
+use std::alloc::Allocator;
+
+/// The line that begins with this piece, and ends with a report of names.
+pub(crate) fn write_name_report<A: Allocator, W: Paper>(
+    printer: &mut Printer<W>,
+    line: Piece,
+    report: &NameReport<A>,
+)
+    requires { length line ≤ HEAD }
+    ensures { Prints W.page printer.old printer.new (line ++ (name_report_text report.now ++ codes "\n")) }
+{
+    match report {
+        NameReport::Looking(id) => end_with_number(printer, line, b"looking ", u64::from(*id)),
+        NameReport::Found(finds) => write_found(printer, line, finds.as_slice()),
+        NameReport::Claimed => end_with_word(printer, line, b"claimed"),
+        NameReport::Taken(owner) => write_taken(printer, line, owner.find()),
+        NameReport::Registered => end_with_word(printer, line, b"done"),
+        NameReport::Unregistered => end_with_word(printer, line, b"done"),
+        NameReport::Relayed => end_with_word(printer, line, b"relayed"),
+        NameReport::Matched(count) => end_with_number(printer, line, b"names ", *count as u64),
+        NameReport::Added(count) => end_with_number(printer, line, b"finds ", *count as u64),
+    }
+}
+
+// The line that begins with this piece, and ends with the finds of a lookup that was finished.
+fn write_found<W: Paper>(printer: &mut Printer<W>, line: Piece, finds: &[Find])
+    requires { length line ≤ HEAD }
+    ensures { Prints W.page printer.old printer.new
+        (line ++ ((codes "found" ++ flat_map found_text finds.now) ++ codes "\n")) }
+{
+    let mut line = line;
+    line.put(b"found");
+    printer.write_all(line.text());
+    write_finds(printer, finds);
+    printer.write_all(b"\n");
+}
+
+fn write_finds<W: Paper>(printer: &mut Printer<W>, finds: &[Find])
+    ensures { Prints W.page printer.old printer.new (flat_map found_text finds.now) }
+{
+    for find in finds {
+        printer.write_all(b" ");
+        write_find(printer, find);
+    }
+}
+
+// The line that begins with this piece, and ends with the name of a claim that is taken.
+fn write_taken<W: Paper>(printer: &mut Printer<W>, line: Piece, find: &Find)
+    requires { length line ≤ HEAD }
+    ensures { Prints W.page printer.old printer.new
+        (line ++ ((codes "taken " ++ find_text find.now) ++ codes "\n")) }
+{
+    let mut line = line;
+    line.put(b"taken ");
+    printer.write_all(line.text());
+    write_find(printer, find);
+    printer.write_all(b"\n");
+}
+
+// A name and who has it.
+fn write_find<W: Paper>(printer: &mut Printer<W>, find: &Find)
+    ensures { Prints W.page printer.old printer.new (find_text find.now) }
+{
+    let name = &find.name;
+    write_name(
+        printer,
+        name.object.bytes(),
+        name.kind.bytes(),
+        name.zone.bytes(),
+    );
+    printer.write_each(&[
+        Part::Text(b","),
+        Part::Number(find.address.node as u64),
+        Part::Text(b","),
+        Part::Number(find.address.socket as u64),
+        Part::Text(b","),
+        Part::Number(find.enumerator as u64),
+    ]);
+}
+
+/// The line that begins with this piece, and ends with a timer of names.
+pub(crate) fn write_name_timer<W: Paper>(printer: &mut Printer<W>, line: Piece, timer: NameTimer)
+    requires { length line ≤ TIMER }
+    ensures { Prints W.page printer.old printer.new (line ++ (name_timer_text timer ++ codes "\n")) }
+{
+    match timer {
+        NameTimer::Lookup { id } => end_with_number(printer, line, b"lookup ", u64::from(id)),
+    }
+}

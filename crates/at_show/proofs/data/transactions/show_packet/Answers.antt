@@ -1,0 +1,27 @@
+use Rattle.std.proofs.Common.{subst, sym}
+use Rattle.at_atp_frame.specs.Frames.{content}
+use Rattle.at_atp_frame.specs.Fault.{number_of}
+use Rattle.at_print.specs.Lines.{packet_line}
+use Rattle.at_show.specs.Data.Transactions.{PacketText, Read, Refused}
+use Rattle.at_show.specs.Refusals.{refusal_line}
+use Rattle.at_show.proofs.ShownLemmas.{tells_why}
+use Rattle.at_show.proofs.data.transactions.show_packet.Goals as goal
+
+pub returns-in-Ok-clause-printed : goal.returns-in-Ok-clause-printed
+returns-in-Ok-clause-printed g c =
+    (packet_line (content c.in-Ok.frame), Read (content c.in-Ok.frame) c.in-Ok.ensures.found, c.write_frame.ensures)
+
+pub returns-in-Err-clause-printed : goal.returns-in-Err-clause-printed
+returns-in-Err-clause-printed g c = (
+  refusal_line (number_of c.in-Err.fault),
+  Refused c.in-Err.fault c.in-Err.ensures.fault,
+  rw c.number.ensures at
+      c.show_refusal.ensures.printed,
+)
+
+pub returns-in-Err-clause-told : goal.returns-in-Err-clause-told
+returns-in-Err-clause-told g c =
+    tells_why g.E.Paper.page (PacketText c.args.bytes.now) c.show_refusal.result c.number.result c.args.diagnostics.now
+    c.show_refusal.new.diagnostics c.show_refusal.ensures.failed
+    (subst (λ n. PacketText c.args.bytes.now (refusal_line n)) (sym c.number.ensures)
+    (Refused c.in-Err.fault c.in-Err.ensures.fault)) c.show_refusal.ensures.told
