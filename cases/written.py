@@ -16,6 +16,9 @@ ESCAPE = re.compile(rb"\\(?:[nrt\\]|x[0-9A-Fa-f]{2})")
 PRINTED = rb"\(nothing\)\n|(?:\.\.\.\n)?(?:(?!\(nothing\)\n|\.\.\.\n|!).+\n)+"
 WANTED = re.compile(rb"(" + PRINTED + rb")((?:! .+\n)*)")
 
+# The sentences that several cases have, and those of refusals by their numbers.
+SENTENCES = pathlib.Path(__file__).parent / "sentences"
+
 Line = tuple[int, bytes]
 
 
@@ -38,11 +41,22 @@ class Case(NamedTuple):
         return self.place.split(": ", 1)[1]
 
 
+def sentences() -> dict[bytes, bytes]:
+    """The sentence of each name, and of each number of a refusal."""
+    lines = SENTENCES.read_bytes().splitlines()
+    return dict((words[0], words[1]) for words in (line.split(b" ", 1) for line in lines))
+
+
+KNOWN = sentences()
+
+
 def repeated(number: int, line: bytes) -> bytes:
-    """The line with each `{TEXT*COUNT}` written out."""
+    """The line with each `{TEXT*COUNT}` and the sentence of each `{NAME}` written out."""
     line = re.sub(rb"\{([^{}]+)\*(\d+)\}", lambda part: part[1] * int(part[2]), line)
+    line = re.sub(rb"\{([a-z]+)\}", lambda part: KNOWN.get(part[1], part[0]), line)
     if b"{" in line or b"}" in line:
-        raise Malformed(number, "a brace is part of `{TEXT*COUNT}`, or of a block of lines")
+        form = "a brace is part of `{TEXT*COUNT}`, of the name of a sentence, or of a block of lines"
+        raise Malformed(number, form)
     return line
 
 
@@ -131,7 +145,7 @@ def places_of(schedule: bytes) -> list[int]:
     return [number for number, line in lines if EVENTS.intersection(line.split()[:1])]
 
 
-def refusals_of(schedule: bytes, printed: bytes, reasons: dict[bytes, bytes]) -> bytes:
+def refusals_of(schedule: bytes, printed: bytes) -> bytes:
     """What is told of the refusals that a play printed: each number once, where it came first."""
     places = dict(enumerate(places_of(schedule)))
     told: dict[bytes, bytes] = {}
@@ -139,12 +153,6 @@ def refusals_of(schedule: bytes, printed: bytes, reasons: dict[bytes, bytes]) ->
         told.setdefault(refusal, event)
     line = b"! %d: event %s was refused: %s (refusal %s)\n"
     return b"".join(
-        line % (places.get(int(event), 0), event, reasons.get(refusal, b"no reason"), refusal)
+        line % (places.get(int(event), 0), event, KNOWN.get(refusal, b"no reason"), refusal)
         for refusal, event in told.items()
     )
-
-
-def reasons_in(path: pathlib.Path) -> dict[bytes, bytes]:
-    """The sentence of each number of a refusal."""
-    lines = path.read_bytes().splitlines()
-    return dict((words[0], words[1]) for words in (line.split(b" ", 1) for line in lines))
