@@ -24,9 +24,9 @@ DATAGRAM = [
     Field("source network", 16, "that of the sender"),
     Field("destination node", 8, "1 to 254, or 255 for every node"),
     Field("source node", 8, "1 to 254"),
-    Field("destination socket", 8, "1 to 254; 2 is names, 6 is zones"),
+    Field("destination socket", 8, "1 to 254; 6 is zones"),
     Field("source socket", 8, "1 to 254"),
-    Field("type", 8, "2 is NBP, 3 is ATP, 7 is ADSP"),
+    Field("type", 8, "the protocol of the data; 3 is ATP"),
     Field("data", 0, "0 to 586 bytes"),
 ]
 SEGMENT = [

@@ -1,5 +1,6 @@
-"""The layers of the crates, and a picture of them. Who uses whom is read from crates.txt."""
+"""The layers of the crates, and a picture of them. Both the layers and who uses whom are read from crates.txt."""
 
+import re
 from collections.abc import Iterator
 from pathlib import Path
 from typing import NamedTuple
@@ -12,56 +13,14 @@ class Layer(NamedTuple):
 
     name: str
     does: str
-    crates: str
+    crates: list[str]
 
 
 # Rows of layers that are side by side, the highest first. A crate uses only crates of its own layer
 # and of lower rows.
-ROWS = [
-    [Layer("program", "atnode play, record, udp, show, capture", "atnode")],
-    [
-        Layer("play", "plays a schedule", "at_play at_record"),
-        Layer("drive", "nodes over a cable or UDP", "at_drive at_drive_lines at_drive_text at_udp_text"),
-        Layer("C", "a node in a C program", "raw_box at_held at_c"),
-    ],
-    [
-        Layer("world", "nodes on one cable, and the headline", "at_world"),
-        Layer(
-            "text",
-            "schedules in, reports out",
-            "at_opened at_words at_faults at_call_words at_setup_lines at_schedule"
-            " at_print at_diagnostics at_show at_capture at_recording",
-        ),
-    ],
-    [
-        Layer(
-            "node",
-            "one event in, one report and its datagrams out",
-            "at_event at_packet at_name_socket at_stream_socket at_transaction_socket"
-            " at_session at_node at_nodes at_steps at_setup",
-        )
-    ],
-    [
-        Layer(
-            "cores",
-            "ATP, ZIP, NBP and ADSP, without clock or socket",
-            "at_table at_atp_requester at_atp_responder at_atp at_zip at_patterns at_nbp"
-            " at_adsp_end at_adsp_ends at_adsp",
-        )
-    ],
-    [
-        Layer(
-            "wire",
-            "datagrams, packets, cables, captures",
-            "at_ddp at_atp_frame at_adsp_frame at_cable at_udp at_pcap at_frames",
-        )
-    ],
-]
-BESIDE = Layer(
-    "tests",
-    "tests and examples",
-    "refusing at_core_tests at_cable_tests at_capture_tests example_programs example_capture",
-)
+ROWS = [["program"], ["play", "drive", "C"], ["world", "text"], ["node"], ["cores"], ["wire"]]
+BESIDE = "tests"
+HEADING = re.compile(r"(?m)^# layer (\w+): (.+)$")
 
 WIDTH, EDGE, BETWEEN, BELOW = 860, 20, 24, 26
 HEAD, LINE, SMALL = 26, 15, 11
@@ -78,32 +37,42 @@ def uses_in(text: str) -> dict[str, list[str]]:
     return {name: [it for it in uses if it in found] for name, uses in found.items()}
 
 
-def height_in() -> dict[str, tuple[int, str]]:
+def layers_in(text: str) -> dict[str, Layer]:
+    """The layers of crates.txt by their names: the crates of each stand under its heading."""
+    parts = HEADING.split(text)
+    headed = zip(parts[1::3], parts[2::3], parts[3::3])
+    layers = {name: Layer(name, does, list(uses_in(under))) for name, does, under in headed}
+    names = [name for row in [*ROWS, [BESIDE]] for name in row]
+    if uses_in(parts[0]) or sorted(names) != sorted(parts[1::3]):
+        raise Wrong("the layers of crates.txt are not those of docs/drawing/layers.py, or a crate has none")
+    return layers
+
+
+def height_in(layers: dict[str, Layer]) -> dict[str, tuple[int, str]]:
     """The row of each crate, counted from below, and the name of its layer."""
     rows = [[BESIDE], *ROWS]
-    places = [(len(rows) - at, layer) for at, row in enumerate(rows) for layer in row]
-    return {crate: (at, layer.name) for at, layer in places for crate in layer.crates.split()}
+    places = [(len(rows) - at, name) for at, row in enumerate(rows) for name in row]
+    return {crate: (at, name) for at, name in places for crate in layers[name].crates}
 
 
-def check(uses: dict[str, list[str]]) -> None:
-    """Tests that each crate has one layer, and uses only what lies below."""
-    height = height_in()
-    listed = [it for row in [[BESIDE], *ROWS] for layer in row for it in layer.crates.split()]
-    if sorted(listed) != sorted(uses):
-        odd = {it for it in listed if listed.count(it) > 1} | set(listed) ^ set(uses)
-        where = "both in crates.txt and in one layer of docs/drawing/layers.py"
-        raise Wrong(f"not {where}: {' '.join(sorted(odd))}")
+def check(uses: dict[str, list[str]], layers: dict[str, Layer]) -> None:
+    """Tests that each crate has one line, and uses only what lies below."""
+    height = height_in(layers)
+    listed = [crate for layer in layers.values() for crate in layer.crates]
+    if len(listed) != len(set(listed)):
+        odd = {it for it in listed if listed.count(it) > 1}
+        raise Wrong(f"more than once in crates.txt: {' '.join(sorted(odd))}")
     for name, below in uses.items():
         for it in below:
             if height[it][1] != height[name][1] and height[it][0] >= height[name][0]:
-                raise Wrong(f"{name} uses {it}, which docs/drawing/layers.py has no lower")
+                raise Wrong(f"{name} uses {it}, of which crates.txt has no lower layer")
 
 
-def edges_of(uses: dict[str, list[str]]) -> list[tuple[str, str]]:
+def edges_of(uses: dict[str, list[str]], layers: dict[str, Layer]) -> list[tuple[str, str]]:
     """Which layer uses which, but for what is so through another layer."""
-    height = height_in()
+    height = height_in(layers)
     pairs = {(height[name][1], height[it][1]) for name, below in uses.items() for it in below}
-    direct = {(a, b) for a, b in pairs if a not in (b, BESIDE.name)}
+    direct = {(a, b) for a, b in pairs if a not in (b, BESIDE)}
     through = {(a, b) for a, c in direct for _, b in direct if reaches(c, b, direct)}
     return sorted(direct - through)
 
@@ -113,10 +82,10 @@ def reaches(above: str, below: str, direct: set[tuple[str, str]]) -> bool:
     return any(a == above and (b == below or reaches(b, below, direct)) for a, b in direct)
 
 
-def wrapped(crates: str, width: float) -> list[str]:
+def wrapped(crates: list[str], width: float) -> list[str]:
     """The names of crates in lines that fit a width."""
     lines = [""]
-    for name in crates.split():
+    for name in crates:
         if width_of(f"{lines[-1]} {name}", SMALL) > width:
             lines.append("")
         lines[-1] = f"{lines[-1]} {name}".strip()
@@ -133,10 +102,10 @@ class Box(NamedTuple):
     height: float
 
 
-def boxes() -> Iterator[Box]:
+def boxes(layers: dict[str, Layer]) -> Iterator[Box]:
     """Where each layer is drawn: the rows from above, and at last what lies beside them."""
     y = 52.0
-    for row in [*ROWS, [BESIDE]]:
+    for row in [[layers[name] for name in names] for names in [*ROWS, [BESIDE]]]:
         width = (WIDTH - 2 * EDGE - BETWEEN * (len(row) - 1)) / len(row)
         lines = max(len(wrapped(it.crates, width - 24)) for it in row)
         height = HEAD + LINE * lines + 10
@@ -148,7 +117,7 @@ def boxes() -> Iterator[Box]:
 def draw_box(picture: Picture, box: Box, fill: str) -> None:
     """Draws a layer: its name, what it is for, and its crates."""
     layer = box.layer
-    dashes = {"stroke_dasharray": "4 3"} if layer is BESIDE else {}
+    dashes = {"stroke_dasharray": "4 3"} if layer.name == BESIDE else {}
     picture.box(box.x, box.y, box.width, box.height, fill, stroke=SOFT, rx=5, **dashes)
     picture.text(box.x + 12, box.y + 18, layer.name, 13, INK, font_weight="bold")
     after = box.x + 24 + width_of(layer.name, 13)
@@ -184,7 +153,7 @@ def draw_bus(picture: Picture, above: list[Box], below: list[Box]) -> None:
 def draw_uses(picture: Picture, placed: dict[str, Box], edges: list[tuple[str, str]]) -> None:
     """Draws which layer uses which, each in the next row."""
     for upper, lower in zip(ROWS, ROWS[1:]):
-        above, below = [placed[it.name] for it in upper], [placed[it.name] for it in lower]
+        above, below = [placed[it] for it in upper], [placed[it] for it in lower]
         pairs = [(a, b) for a in above for b in below if (a.layer.name, b.layer.name) in edges]
         if len(pairs) == len(above) * len(below) and len(above) > 1 and len(below) > 1:
             draw_bus(picture, above, below)
@@ -195,16 +164,17 @@ def draw_uses(picture: Picture, placed: dict[str, Box], edges: list[tuple[str, s
 
 def draw_layers(top: Path) -> str:
     """The picture of all layers."""
-    uses = uses_in((top / "crates.txt").read_text("utf-8"))
-    check(uses)
-    edges, placed = edges_of(uses), {it.layer.name: it for it in boxes()}
-    rows = [layer for row in [*ROWS, [BESIDE]] for layer in row]
-    told = [f"{it.name}, {it.does}: {', '.join(it.crates.split())}." for it in rows]
+    text = (top / "crates.txt").read_text("utf-8")
+    uses, layers = uses_in(text), layers_in(text)
+    check(uses, layers)
+    edges, placed = edges_of(uses, layers), {it.layer.name: it for it in boxes(layers)}
+    rows = [layers[name] for row in [*ROWS, [BESIDE]] for name in row]
+    told = [f"{it.name}, {it.does}: {', '.join(it.crates)}." for it in rows]
     told += [f"{above} uses {below}." for above, below in edges]
     picture = Picture("The layers of atnode", " ".join(told))
     picture.text(EDGE, 32, "An arrow leads from a layer to one that it uses.", 12, SOFT)
     draw_uses(picture, placed, edges)
     for box in placed.values():
-        draw_box(picture, box, PAPER if box.layer is BESIDE else PALE)
-    last = placed[BESIDE.name]
+        draw_box(picture, box, PAPER if box.layer.name == BESIDE else PALE)
+    last = placed[BESIDE]
     return picture.svg(WIDTH, last.y + last.height + EDGE)

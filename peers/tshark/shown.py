@@ -30,7 +30,10 @@ RESPONSE = re.compile(
 )
 RELEASE = re.compile(r"atp release id (\d+)")
 RAW = re.compile(r"raw (-|[0-9A-F]+)")
-SEGMENT = re.compile(r"adsp .+")
+# The line of a packet of a protocol that is not compared. tshark reads nothing of ADSP.
+UNREAD = re.compile(
+    r"(?!(?:answers|atp|ddp|fault|frames?|nbp|raw|refused|stopped|tuple)\b)[a-z]+ .+"
+)
 REFUSED = re.compile(r"refused (\d+)")
 ANSWERS = re.compile(r"answers frame (\d+)")
 END = re.compile(r"frames (\d+) datagrams (\d+) refused (\d+) other (\d+)")
@@ -286,12 +289,12 @@ def add_raw(fields: Fields, data: str) -> None:
         add(fields, ("zip.function",), (int(data[:2], 16),))
 
 
-def add_segment(_: Fields) -> None:
-    """A segment of ADSP, of which tshark reads nothing."""
+def add_unread(_: Fields) -> None:
+    """Adds nothing, since the packet is not compared."""
 
 
 ADDERS: Tuple[Tuple[Pattern[str], Callable[..., None]], ...] = (
     (LONG, add_long), (SHORT, add_short), (NAMES, add_names), (TUPLE, add_tuple),
     (REQUEST, add_request), (RESPONSE, add_response), (RELEASE, add_release), (RAW, add_raw),
-    (SEGMENT, add_segment),
+    (UNREAD, add_unread),
 )
