@@ -1,11 +1,11 @@
 mod Atp
-mod AtpOutcomes
+mod Coming
+mod Drawing
 mod Entries
+mod Foreign
 mod Kept
-mod NameOutcomes
 mod Names
 mod Outcomes
 mod Safety
 mod Sessions
-mod StreamOutcomes
 mod Streams

@@ -1,8 +1,3 @@
--- How each event of a node is safe.
+-- How each event of a node is safe, whatever its protocol.
 pub mod By
 pub mod Events
-pub mod Names
-pub mod Records
-pub mod Requests
-pub mod Serving
-pub mod Streams

@@ -1,4 +1,4 @@
--- How each step of a node's part for streams is a happening of its network.
+-- How each step of a node's part for streams is a happening of its network, and safe.
 pub mod Arriving
 pub mod Below
 pub mod Calls
@@ -10,6 +10,8 @@ pub mod Moves
 pub mod OnNet
 pub mod OnNetHistories
 pub mod Ours
+pub mod Outcomes
 pub mod Passing
 pub mod Reading
+pub mod Safe
 pub mod Timers

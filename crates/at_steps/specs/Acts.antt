@@ -1,6 +1,6 @@
 -- What happens at a node, and which reports there are.
-use Rattle.std.specs.Prelude.{ℕ, Bool, true, false}
-use Rattle.at_event.specs.Kinds.{Kind, Nobody, Atp, Nbp, Adsp, reporter_of}
+use Rattle.std.specs.Prelude.{ℕ}
+use Rattle.at_event.specs.Kinds.{Kind, Nobody, reporter_of}
 use Rattle.at_event.specs.declared.Call.{Call}
 use Rattle.at_event.specs.declared.Report.{Report}
 use Rattle.at_event.specs.declared.Report.TheVariants as report
@@ -12,18 +12,6 @@ pub data Act (A : Type 0) : Type 0 where
   Fires : Timer → Act A
   Gets : (which : ℕ) → Act A
   Forges : Act A
-
-abbrev pub is_atp : Kind → Bool
-is_atp Atp = true
-is_atp other = false
-
-abbrev pub is_nbp : Kind → Bool
-is_nbp Nbp = true
-is_nbp other = false
-
-abbrev pub is_adsp : Kind → Bool
-is_adsp Adsp = true
-is_adsp other = false
 
 abbrev pub IsSomebodys : Kind → Type 0
 IsSomebodys Nobody = ⊥

@@ -16,16 +16,21 @@ use Rattle.at_zip.specs.Tables.{Tables, AreTables}
 use Rattle.at_transaction_socket.specs.AtpParts.{AtpState, Reading, asking, serving, zones_at}
 use Rattle.at_node.specs.Numbers.{drawn_by}
 use Rattle.at_node.specs.Nodes.{NodeState}
-use Rattle.at_event.specs.Kinds.{reporter_of}
+use Rattle.at_event.specs.Kinds.{Kind, Atp, reporter_of}
 use Rattle.at_event.specs.Outcomes.{Outcome, Outgoing}
 use Rattle.at_node.specs.declared.numbers.Draw.{Draw}
 use Rattle.at_node.specs.declared.numbers.Draw.TheVariants.{Tid}
 use Rattle.at_event.specs.declared.Report.{Report}
 use Rattle.at_event.specs.declared.Report.TheVariants as report
 use Rattle.at_event.specs.declared.zones.ZoneReport.TheVariants as zip_report
-use Rattle.at_steps.specs.Acts.{Act, is_atp, IsSaid}
+use Rattle.at_steps.specs.Acts.{Act, IsSaid}
 use Rattle.at_steps.specs.AtpReports.{Matches}
 use Rattle.at_steps.specs.AtpSteps.{Change, IsStep}
+
+-- is it ATP's, of which ZIP is a user?
+abbrev pub is_atp : Kind → Bool
+is_atp Atp = true
+is_atp other = false
 
 -- ---- a node in a network
 

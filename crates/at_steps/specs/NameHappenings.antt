@@ -1,5 +1,5 @@
 -- Which happening of the network of names and lookups a step of a node is (Inside AppleTalk, NBP, "Name lookup").
-use Rattle.std.specs.Prelude.{◌≡◌, ℕ, ◌^◌, ◌<◌, ◌==◌, ◌&&◌, ◌++◌, nat_lt, Bool, false, List, ◌∷◌, Option, Some}
+use Rattle.std.specs.Prelude.{◌≡◌, ℕ, ◌^◌, ◌<◌, ◌==◌, ◌&&◌, ◌++◌, nat_lt, Bool, true, false, List, ◌∷◌, Option, Some}
 use Rattle.std.specs.List.{AllByRecursion}
 use Rattle.at_ddp.specs.declared.address.Address.{Address}
 use Rattle.at_nbp.specs.Askers.{IsAskedBy}
@@ -14,14 +14,19 @@ use Rattle.at_name_socket.specs.NameSockets.{names_of}
 use Rattle.at_name_socket.specs.Sockets.{IsSocket}
 use Rattle.at_name_socket.specs.Steps as sockets
 use Rattle.at_node.specs.Numbers.{drawn_by}
-use Rattle.at_event.specs.Kinds.{reporter_of}
+use Rattle.at_event.specs.Kinds.{Kind, Nbp, reporter_of}
 use Rattle.at_event.specs.Kinds.Names.{IsZone}
 use Rattle.at_node.specs.Nodes.{NodeState}
 use Rattle.at_event.specs.Outcomes.{Outcome}
 use Rattle.at_node.specs.declared.numbers.Draw.{Draw}
 use Rattle.at_node.specs.declared.numbers.Draw.TheVariants.{Lookup}
-use Rattle.at_steps.specs.Acts.{Act, is_nbp}
+use Rattle.at_steps.specs.Acts.{Act}
 use Rattle.at_steps.specs.NameSteps.{IsStep}
+
+-- is it NBP's?
+abbrev pub is_nbp : Kind → Bool
+is_nbp Nbp = true
+is_nbp other = false
 
 -- ---- a node in a network
 

@@ -17,7 +17,7 @@ use Rattle.at_adsp.specs.Network.{Sent, Setting, Strange, Takes, Ticks, Writes, 
 use Rattle.at_adsp.specs.Streams.{Stream}
 use Rattle.at_nbp.specs.declared.find.Find.{Find as Found}
 use Rattle.at_session.specs.Sessions.{SessionState, address_at}
-use Rattle.at_event.specs.Kinds.{reporter_of}
+use Rattle.at_event.specs.Kinds.{Kind, Adsp, reporter_of}
 use Rattle.at_event.specs.Outcomes.{Outcome}
 use Rattle.at_event.specs.declared.Call.TheVariants.{Streams}
 use Rattle.at_event.specs.declared.streams.StreamCall.TheVariants.{Open, Listen, Connect, Write, Read, Reset, Close}
@@ -31,8 +31,13 @@ use Rattle.at_node.specs.Nodes.{NodeState}
 use Rattle.at_node.specs.declared.numbers.Draw.{Draw}
 use Rattle.at_node.specs.declared.numbers.Draw.TheVariants.{Conn}
 use Rattle.at_stream_socket.specs.Sockets.{streams_at}
-use Rattle.at_steps.specs.Acts.{Act, Calls, Fires, Gets, is_adsp}
+use Rattle.at_steps.specs.Acts.{Act, Calls, Fires, Gets}
 use Rattle.at_steps.specs.StreamSteps.{Change, IsStep}
+
+-- is it ADSP's?
+abbrev pub is_adsp : Kind → Bool
+is_adsp Adsp = true
+is_adsp other = false
 
 -- ---- a node in a network
 

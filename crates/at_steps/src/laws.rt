@@ -20,8 +20,8 @@ ghost use Rattle.at_event.specs.declared.Call.{Call};
 ghost use Rattle.at_event.specs.declared.Timer.{Timer};
 ghost use Rattle.at_event.specs.declared.service.Reply.{Reply};
 ghost use Rattle.at_event.specs.declared.service.Reply.TheVariants.{Later};
-ghost use Rattle.at_steps.specs.Acts.{Act, Calls, Fires, Gets, is_atp};
-ghost use Rattle.at_steps.specs.AtpHappenings.{HoldsNo, IsForeign, IsHappening, Passes, Stands};
+ghost use Rattle.at_steps.specs.Acts.{Act, Calls, Fires, Gets};
+ghost use Rattle.at_steps.specs.AtpHappenings.{HoldsNo, IsForeign, IsHappening, Passes, Stands, is_atp};
 
 use std::alloc::Allocator;
 

@@ -8,7 +8,7 @@ use Rattle.at_atp_requester.specs.Requests.{heard}
 use Rattle.at_atp_requester.specs.declared.step.Step.{Step}
 use Rattle.at_atp_requester.specs.declared.step.Step.TheVariants as step
 use Rattle.at_zip.specs.Page as pages
-use Rattle.at_event.specs.Kinds.{Kind, Adsp, Atp, Nbp, Nobody, Session, reporter_of}
+use Rattle.at_event.specs.Kinds.{Kind, Atp, Nobody, reporter_of}
 use Rattle.at_event.specs.Outcomes.{Outcome}
 use Rattle.at_event.specs.declared.Report.{Report}
 use Rattle.at_event.specs.declared.Report.TheVariants as report
@@ -114,9 +114,7 @@ module _ (A : Type 0) (s : Seat) (a : AtpState) (from : Address) (f : Content) (
 own_of : (k : Kind) → (other_part k ≡ None → (k ≡ Atp) ⊎ (k ≡ Nobody))
 own_of Atp h = inl refl
 own_of Nobody h = inr refl
-own_of Session h = absurd (cc)
-own_of Nbp h = absurd (cc)
-own_of Adsp h = absurd (cc)
+own_of other h = absurd (cc)
 
 pub reports_own : (A : Type 0) (said : Reply A) (s : Seat) (a : AtpState) (d : Datagram) (o : Outcome A AtpState)
     → HearsAtp said s a d o → (reporter_of o.report ≡ Atp) ⊎ (reporter_of o.report ≡ Nobody)

@@ -1,5 +1,6 @@
 mod Acts
 mod Atp
+mod CableOpening
 mod CableTie
 mod Canonical
 mod DeliveryLemmas
@@ -12,11 +13,10 @@ mod LawfulSetups
 mod Names
 mod Nodes
 mod NotedLemmas
+mod Parts
 mod Runs
 mod SafetyLemmas
 mod SentLemmas
 mod Sessions
 mod Streams
-mod Tied
-mod TiedAtOpening
 mod WorldLemmas

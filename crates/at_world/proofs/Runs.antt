@@ -1,19 +1,14 @@
 -- Every play is a run of the machine.
 use Rattle.std.proofs.Common.{◌≡◌, ◌⊎◌, inl, inr, ⊎_elim, Bool, true, false, cond, List, [], ◌∷◌, map, take, Some, None}
-use Rattle.std.proofs.Common.{ℕ, Result, Ok, Err, refl, sym, ap, subst, ◌∙◌}
-use Rattle.std.specs.Prelude.{◌↔◌}
+use Rattle.std.proofs.Common.{Result, Ok, Err, refl, sym, ap, subst, ◌∙◌}
 use Rattle.at_ddp.specs.Datagrams.{Posted}
 use Rattle.std.proofs.lemmas.Bool.{true≢false}
 use Rattle.at_event.specs.Kinds.{reporter_of}
-use Rattle.at_event.specs.declared.Call.{Call}
-use Rattle.at_event.specs.declared.Timer.{Timer}
-use Rattle.at_event.specs.declared.service.Reply.{Reply}
 use Rattle.at_event.specs.declared.Report.{Report}
 use Rattle.at_event.specs.declared.Report.TheVariants.{NoMemory}
 use Rattle.at_node.specs.Hearing.{Hears}
 use Rattle.at_node.specs.Nodes.{NodeState, called, timed}
-use Rattle.at_node.specs.Numbers.{DrawsHearing, IsTold, draw_of, drawn_by}
-use Rattle.at_node.specs.declared.numbers.Draw.{Draw}
+use Rattle.at_node.specs.Numbers.{IsTold, drawn_by}
 use Rattle.at_event.specs.Outcomes.{Outcome, idle, posted, IsStep, Comes}
 use Rattle.at_event.specs.Services.{is_asked}
 use Rattle.at_setup.specs.declared.event.Event.{Event}
@@ -23,55 +18,20 @@ use Rattle.at_world.specs.declared.transcript.Transcript.{Transcript}
 use Rattle.at_world.specs.declared.transcript.PlayFault.{PlayFault}
 use Rattle.at_world.specs.Agreements.{AgreeThroughout, HasAgreeingRun, IsAgreedRun}
 use Rattle.at_world.specs.Cables.{Cable}
-use Rattle.at_world.specs.Events.{NoForge, act_of, is_forged, node_of}
-use Rattle.at_world.specs.Machine.{Machine, opening_machine, Step, Run, IsRun}
+use Rattle.at_world.specs.Events.{NoForge, is_forged, node_of}
+use Rattle.at_world.specs.Machine.{Machine, opening_machine, Run, IsRun}
 use Rattle.at_world.specs.Plays.{opening_world, Follows, IsPlay}
 use Rattle.at_world.specs.Stories.{Tells, tables_by}
 use Rattle.at_world.specs.Worlds.{WorldState, AreFree, IsPlayable, Plays, is_over, node_at, recorded, refusal}
 use Rattle.at_world.specs.Worlds.{refusal_at}
-use Rattle.at_world.proofs.Atp.Happenings.{Follows as FollowsAtp, call_follows, datagram_follows, passed, timer_follows}
 use Rattle.at_world.proofs.Atp.Serving.{answers_its_request}
 use Rattle.at_world.proofs.Atp.Tables.{tables_follow}
-use Rattle.at_world.proofs.Atp.Tie.{Laws, AtpTie, Grown}
-use Rattle.at_world.proofs.CableTie.{cable_next}
 use Rattle.at_nodes.specs.Nodes.{KeepsSeat}
-use Rattle.at_world.proofs.Atp.Coming.{comes}
 use Rattle.at_world.proofs.FreshLemmas.{fresh_of}
-use Rattle.at_world.proofs.Names.Coming as names_coming
-use Rattle.at_world.proofs.Names.Happenings as named
-use Rattle.at_world.proofs.Names.Next.{Good as GoodNames}
-use Rattle.at_world.proofs.Names.Tie.{NameLaws, NameTie}
-use Rattle.at_world.proofs.Sessions.Steps as told
-use Rattle.at_world.proofs.Sessions.Steps.{Good as GoodSessions, SessionLaws}
-use Rattle.at_world.proofs.Streams.Coming as streams_coming
-use Rattle.at_world.proofs.Streams.Happenings as streamed
-use Rattle.at_world.proofs.Streams.Next.{Good as GoodStreams}
 use Rattle.at_world.proofs.Streams.Peers.{names_peers}
-use Rattle.at_world.proofs.Streams.Tie.{StreamLaws, StreamTie}
-use Rattle.at_world.proofs.Tied.{Tied}
+use Rattle.at_world.proofs.Parts.{EachFollows, Follow, PartLaws, Tied, call_follows, datagram_follows, nothing_follows}
+use Rattle.at_world.proofs.Parts.{timer_follows, together}
 use Rattle.at_setup.specs.declared.refusal.Refusal.TheVariants.{Limit}
-
--- the machine may answer an event so, and is tied to the world after it
-abbrev pub Follow : (A : Type 0) (w : WorldState) (m : Machine) → Tied A w m → Event A → Report A → WorldState → Type 0
-Follow A w m t e r w' = (m' : Machine) × Step m e r m' × (now : Tied A w' m')
-    × Grown A m.cable m.atp (t.atp).history (now.atp).history e r m'.atp × (m'.cable ≡ m.cable)
-
--- a node stays at its seat
-pub record SeatLaws (A : Type 0) : Type 0 where
-  pub called : (n : NodeState) (call : Call A) → KeepsSeat n (called n call)
-  pub timed : (n : NodeState) (time : Timer) → KeepsSeat {A = A} n (timed n time)
-  pub heard : (said : Reply A) (n : NodeState) (bytes : List ℕ) (o : Outcome A NodeState) → Hears said n bytes o
-      → KeepsSeat n o
-
--- what the layers below promise of each part
-pub record PartLaws (A : Type 0) : Type 0 where
-  pub atp : Laws A
-  pub names : NameLaws A
-  pub streams : StreamLaws A
-  pub sessions : SessionLaws A
-  pub seats : SeatLaws A
-  pub drawn : (n : NodeState) (call : Call A) → drawn_by (called n call).report ≡ draw_of n call
-  pub heard : (n : NodeState) (bytes : List ℕ) (draw : Draw) → IsTold A n bytes draw ↔ DrawsHearing n bytes draw
 
 -- ---- the two ends of a step
 
@@ -95,65 +55,17 @@ either_coming A P n r after out h = inr h
 
 module _ (A : Type 0) (w : WorldState) (m : Machine) (t : Tied A w m) (e : Event A) (n : NodeState)
     (stands : node_at w (node_of e) ≡ Some n) where
-  -- each part follows an outcome
-  abbrev EachFollows : Outcome A NodeState → Type 0
-  EachFollows o = FollowsAtp A w m.cable m.atp t.cable t.atp e o
-      × GoodNames A w m.cable m.sessions m.names (t.cable).wires e o
-      × GoodStreams A w m.cable m.sessions m.streams (t.cable).wires e o
-      × GoodSessions A w m.cable m.sessions e n o t.sessions stands
-
-  -- the parts and the cable follow an outcome together
-  together : (o : Outcome A NodeState) → KeepsSeat n o → EachFollows o
-      → Follow A w m t e o.report (recorded w (node_of e) o.report o.state (map posted o.out))
-  together o seat ((said, good), names, streams, sessions) =
-      let cable = cable_next A w m.cable (node_of e) n o t.cable stands seat in
-      let both = subst (λ l. (x : AtpTie A (recorded w (node_of e) o.report o.state (map posted o.out)) m.cable l
-      good.0) × Grown A m.cable m.atp (t.atp).history x.history e o.report good.0) (sym cable.1)
-      (good.2, good.3) in
-      let tied_names = subst (λ l. NameTie (recorded w (node_of e) o.report o.state (map posted o.out)) m.cable l
-      names.0) (sym cable.1) names.2 in
-      let tied_streams = subst
-      (λ l. StreamTie (recorded w (node_of e) o.report o.state (map posted o.out)) m.cable l streams.0)
-      (sym cable.1) streams.2 in (
-        record { cable = m.cable; atp = good.0; names = names.0; streams = streams.0; sessions = sessions.0 },
-        record {
-          cable = record { said = said; becomes = refl };
-          atp = good.1;
-          names = names.1;
-          streams = streams.1;
-          sessions = sessions.1;
-        },
-        record { cable = cable.0; atp = both.0; names = tied_names; streams = tied_streams; sessions = sessions.2 },
-        both.1,
-        refl,
-      )
-
   module _ (r : Report A) (after : NodeState) (out : List Posted) (w' : WorldState)
       (is : w' ≡ recorded w (node_of e) r after out) where
-    of_good : (o : Outcome A NodeState) → KeepsSeat n o → EachFollows o → Its o r after out → Follow A w m t e r w'
+    of_good : (o : Outcome A NodeState) → KeepsSeat n o → EachFollows A w m t e n stands o → Its o r after out
+        → Follow A w m t e r w'
     of_good o seat good l =
         subst (Follow A w m t e r) (sym (is ∙ (λ i. recorded w (node_of e) (l.0 i) (l.1 i) (l.2 i))))
         (subst (λ x. Follow A w m t e x (recorded w (node_of e) o.report o.state (map posted o.out))) (sym l.0)
-        (together o seat good))
+        (together A w m t e n stands o seat good))
 
     of_nothing : PartLaws A → is_over w ≡ false → Nothing r n after out → Follow A w m t e r w'
-    of_nothing laws runs l =
-        let has = t.sessions in
-        let its = has.sessions (node_of e) n stands in
-        let fits = its.fits in
-        let seats = t.cable in
-        let seat = seats.seats (node_of e) n stands in
-        let number = seat.number in
-        of_good (idle n NoMemory) refl (
-          passed A laws.atp w m.cable m.atp t.cable t.atp e n stands (idle n NoMemory) refl
-              (record { same = refl; sends = tt; reports = refl; said = tt }),
-          named.passed A laws.names w m.cable m.sessions m.names t.cable t.sessions t.names e n stands
-              (idle n NoMemory) refl (record { same = refl; sends = tt; reports = refl }),
-          streamed.passed A laws.streams w m.cable m.sessions m.streams t.cable t.sessions t.streams runs e n stands
-              (idle n NoMemory) refl (record { same = refl; sends = tt; reports = refl }),
-          told.good_next A w m.cable m.sessions e n (idle n NoMemory) t.sessions stands number
-              (told.nothing_steps A n.session (act_of e)) fits,
-        ) l
+    of_nothing laws runs l = of_good (idle n NoMemory) refl (nothing_follows A w m t e n stands laws runs) l
 
 -- ---- one event
 
@@ -175,33 +87,18 @@ followed A laws w m (event.Call k call) r w' t sent playable both =
     let runs = still_runs {A = A} w (event.Call k call) playable.allowed in
     let p = both.0 in
     let n = p.node in
-    let seat = (laws.seats).called n call in
     ⊎_elim
     (of_nothing A w m t (event.Call k call) n p.stands r p.after p.out w' p.booked laws runs)
-    (of_good A w m t (event.Call k call) n p.stands r p.after p.out w' p.booked (called n call) seat (
-      call_follows A laws.atp w m.cable m.atp t.cable t.atp k n p.stands call both.1 timely seat,
-      named.call_follows A laws.names w m.cable m.sessions m.names t.cable t.sessions t.names k n p.stands call both.1
-          seat,
-      streamed.call_follows A laws.streams w m.cable m.sessions m.streams t.cable t.sessions t.streams runs k n
-          p.stands call both.1 timely seat,
-      told.call_follows A laws.sessions laws.names w m.cable m.sessions m.names t.cable t.sessions t.names k n p.stands
-          call both.1 seat,
-    ))
+    (of_good A w m t (event.Call k call) n p.stands r p.after p.out w' p.booked (called n call)
+    ((laws.seats).called n call) (call_follows A laws w m t runs k n p.stands call both.1 timely))
     (either A (called n call) n r p.after p.out p.steps)
 followed A laws w m (event.Timer k time) r w' t sent playable p =
     let runs = still_runs {A = A} w (event.Timer k time) playable.allowed in
     let n = p.node in
-    let seat = (laws.seats).timed n time in
     ⊎_elim
     (of_nothing A w m t (event.Timer k time) n p.stands r p.after p.out w' p.booked laws runs)
-    (of_good A w m t (event.Timer k time) n p.stands r p.after p.out w' p.booked (timed n time) seat (
-      timer_follows A laws.atp w m.cable m.atp t.cable t.atp k n p.stands time seat,
-      named.timer_follows A laws.names w m.cable m.sessions m.names t.cable t.sessions t.names k n p.stands time seat,
-      streamed.timer_follows A laws.streams w m.cable m.sessions m.streams t.cable t.sessions t.streams runs k n
-          p.stands time seat,
-      told.timer_follows A laws.sessions laws.names w m.cable m.sessions m.names t.cable t.sessions t.names k n
-          p.stands time seat,
-    ))
+    (of_good A w m t (event.Timer k time) n p.stands r p.after p.out w' p.booked (timed n time)
+    ((laws.seats).timed n time) (timer_follows A laws w m t runs k n p.stands time))
     (either A (timed n time) n r p.after p.out p.steps)
 followed A laws w m (event.Deliver which k) r w' t sent playable d =
     let timely = playable.timely in
@@ -212,27 +109,15 @@ followed A laws w m (event.Deliver which k) r w' t sent playable d =
     let free : AreFree w.nodes k (λ x draw. IsTold A x (d.datagram).bytes draw) =
     λ x here draw told. timely.free x here draw
     (d.datagram, d.was_sent, (laws.heard x (d.datagram).bytes draw).0 told) in
-    let c = comes A laws.atp w m.cable m.atp t.cable t.atp which d.datagram d.was_sent fresh in
-    let c' = names_coming.comes A laws.names w m.cable m.names t.cable t.names which d.datagram
-    d.was_sent fresh in
-    let c'' = streams_coming.comes A laws.streams w m.cable m.streams t.cable t.streams which d.datagram
-    d.was_sent fresh in
     let said = p.steps.0 in
     let later = p.steps.2 in
     ⊎_elim
     (of_nothing A w m t (event.Deliver which k) n p.stands r p.after p.out w' p.booked laws runs)
-    (λ (x : (o : Outcome A NodeState) × Hears said n (d.datagram).bytes o × Its o r p.after p.out). let seat =
-    (laws.seats).heard said n (d.datagram).bytes x.0 x.1 in of_good A w m t
-    (event.Deliver which k) n p.stands r p.after p.out w' p.booked x.0 seat (
-      datagram_follows A laws.atp w m.cable m.atp t.cable t.atp k n p.stands which d.datagram c free said x.0
-          (λ asked. later (ap is_asked (x.2).0 ∙ asked)) x.1 seat,
-      named.datagram_follows A laws.names w m.cable m.sessions m.names t.cable t.sessions t.names k n p.stands which
-          d.datagram c' said x.0 x.1 seat,
-      streamed.datagram_follows A laws.streams w m.cable m.sessions m.streams t.cable t.sessions t.streams runs k n
-          p.stands which d.datagram c'' free said x.0 x.1 seat,
-      told.datagram_follows A laws.sessions laws.names w m.cable m.sessions m.names t.cable t.sessions t.names k n
-          p.stands which (d.datagram).bytes said x.0 x.1 seat,
-    ) x.2)
+    (λ (x : (o : Outcome A NodeState) × Hears said n (d.datagram).bytes o × Its o r p.after p.out). of_good A w m t
+    (event.Deliver which k) n p.stands r p.after p.out w' p.booked x.0
+    ((laws.seats).heard said n (d.datagram).bytes x.0 x.1)
+    (datagram_follows A laws w m t runs k n p.stands which d.datagram d.was_sent fresh free said x.0
+    (λ asked. later (ap is_asked (x.2).0 ∙ asked)) x.1) x.2)
     (either_coming A (Hears said n (d.datagram).bytes) n r p.after p.out p.steps.1)
 followed A laws w m (event.Forge k bytes) r w' t forged playable p = absurd (true≢false forged)
 

@@ -35,7 +35,8 @@ use Rattle.at_steps.proofs.Atp.Below.{HearingLaws}
 use Rattle.at_steps.proofs.Atp.Coming.{requester_on_net, responder_on_net}
 use Rattle.at_steps.proofs.Atp.Heard.{response_happens}
 use Rattle.at_steps.proofs.Atp.Keeping.{keeping}
-use Rattle.at_steps.proofs.Atp.Moves.{IsIts, idle_happens}
+use Rattle.at_steps.proofs.Atp.Moves.{idle_happens}
+use Rattle.at_steps.proofs.Atp.Standing.{IsIts}
 use Rattle.at_steps.proofs.Atp.Requested.{asks, released_where, service_release, service_request}
 use Rattle.at_steps.proofs.Atp.Served.{zone_release, zone_request}
 

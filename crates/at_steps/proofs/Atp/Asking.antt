@@ -39,7 +39,9 @@ use Rattle.at_steps.specs.Acts.{Calls}
 use Rattle.at_steps.specs.AtpHappenings.{Stands, IsOpen}
 use Rattle.at_steps.specs.AtpSteps.{Begins, Reads, Sets}
 use Rattle.at_steps.proofs.Atp.Below.{CallLaws}
-use Rattle.at_steps.proofs.Atp.Moves.{IsIts, idle_happens, begun_happens, table_happens}
+use Rattle.at_steps.proofs.Atp.Beginning.{begun_happens}
+use Rattle.at_steps.proofs.Atp.Moves.{idle_happens, table_happens}
+use Rattle.at_steps.proofs.Atp.Standing.{IsIts}
 use Rattle.at_steps.proofs.Atp.Stories.{begins_match}
 
 -- ---- numbers that are open

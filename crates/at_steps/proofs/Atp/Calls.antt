@@ -24,17 +24,18 @@ use Rattle.at_node.specs.Nodes.{with_atp, NodeState, called}
 use Rattle.at_event.specs.Outcomes.{over, idle, refused_as}
 use Rattle.at_transaction_socket.specs.ServiceSocket.{answered_with}
 use Rattle.at_event.specs.declared.Call.{Call}
-use Rattle.at_event.specs.declared.Call.TheVariants.{Transactions, Zones, Names, Streams, Session}
+use Rattle.at_event.specs.declared.Call.TheVariants.{Transactions, Zones}
 use Rattle.at_event.specs.declared.transactions.TransactionCall.TheVariants.{Ask, Answer}
 use Rattle.at_event.specs.declared.zones.ZoneCall.TheVariants as zone
 use Rattle.at_event.specs.declared.Report.TheVariants as report
 use Rattle.at_event.specs.declared.transactions.TransactionReport.TheVariants as atp_report
-use Rattle.at_steps.specs.Acts.{Act, Calls, is_atp}
+use Rattle.at_steps.specs.Acts.{Act, Calls}
 use Rattle.at_steps.specs.AtpSteps as steps
-use Rattle.at_steps.specs.AtpHappenings.{Stands}
+use Rattle.at_steps.specs.AtpHappenings.{Stands, is_atp}
 use Rattle.at_steps.proofs.Atp.Asking.{DrawsFree, zones_call, set_zones_call, ask_call}
 use Rattle.at_steps.proofs.Atp.Below.{CallLaws}
-use Rattle.at_steps.proofs.Atp.Moves.{IsIts, idle_happens, gave_happens, with_service}
+use Rattle.at_steps.proofs.Atp.Moves.{idle_happens, gave_happens}
+use Rattle.at_steps.proofs.Atp.Standing.{IsIts, with_service}
 use Rattle.at_steps.proofs.Atp.Stories.{answers_match}
 
 -- a refusal by the transaction protocol
@@ -112,7 +113,7 @@ module _ (A : Type 0) (laws : CallLaws A) (history : List Happening) (n : NodeSt
         (λ who. ap (λ (x : Network). x.requesters who) done_is)
         (λ at. ap (λ (x : Network). x.responders at) done_is
         ∙ ap (λ rs. put (after A history).responders here (after_answer rs key packets) at) st.service
-        ∙ with_service A history n (Calls (Transactions (Answer key packets))) st now at)
+        ∙ with_service A history n st now at)
         (ap (λ (x : Network). x.sent) done_is
         ∙ ap (λ rs. (after A history).sent ++ stamped (after A history).event here
         (asked_for (find (is_key key) rs) key packets)) st.service)
@@ -143,6 +144,4 @@ module _ (A : Type 0) (laws : CallLaws A) (history : List Happening) (n : NodeSt
       user bytes wanted xo retries range (nat_lt 578 (length bytes)) refl free
   call_happens (Transactions (Answer key packets)) range own free =
       answer_call key packets range (answer_fault n.atp.service_responder key packets) refl
-  call_happens (Session call) range own free = absurd (cc)
-  call_happens (Names call) range own free = absurd (cc)
-  call_happens (Streams call) range own free = absurd (cc)
+  call_happens other range own free = absurd (cc)

@@ -1,49 +1,41 @@
 -- What a response that comes to a node's asking socket is in the network.
-use Rattle.std.proofs.Common.{◌≡◌, inl, inr, ℕ, ◌+◌, ◌≤◌, Bool, true, false, cond, List, [], ◌∷◌, ◌++◌, length, Some}
-use Rattle.std.proofs.Common.{None, refl, sym, ap, subst, ◌∙◌}
-use Rattle.std.specs.Prelude.{MatchBool, find, nat_lt, not, ◌==◌, ◌&&◌, ◌||◌}
-use Rattle.std.proofs.lemmas.Bool.{false≢true, and_parts, ltb-false, ltb-true}
+use Rattle.std.proofs.Common.{◌≡◌, ℕ, Bool, true, false, cond, List, [], ◌∷◌, Some, None, refl, sym, ap, subst, ◌∙◌}
+use Rattle.std.specs.Prelude.{MatchBool, find, not, ◌==◌, ◌&&◌, ◌||◌}
+use Rattle.std.proofs.lemmas.Bool.{false≢true, and_parts}
 use Rattle.at_ddp.specs.Address.{same_address}
 use Rattle.at_ddp.specs.declared.address.Address.{Address}
 use Rattle.at_ddp.proofs.Octets.{same_address_itself}
-use Rattle.at_atp_frame.specs.Frames.{Response, number_of}
+use Rattle.at_atp_frame.specs.Frames.{Content, Response, number_of}
 use Rattle.at_atp_frame.specs.Packets.{Packet}
 use Rattle.at_atp_requester.specs.Requests as requests
-use Rattle.at_atp_requester.specs.Requests.{Requests, begun, finishes, has_number, heard, is_at_least_once, is_finished}
-use Rattle.at_atp_requester.specs.Requests.{is_numbered, is_of, next_number}
+use Rattle.at_atp_requester.specs.Requests.{Requests, finishes, has_number, heard, is_at_least_once, is_finished}
+use Rattle.at_atp_requester.specs.Requests.{is_numbered, is_of}
 use Rattle.at_atp_requester.specs.declared.step.Step.{Step as Stepped}
 use Rattle.at_atp_requester.specs.declared.step.Step.TheVariants as step
 use Rattle.at_atp.specs.Network as network
 use Rattle.at_ddp.specs.Posts.{packet_at}
 use Rattle.at_atp.specs.Network.{Sent, Happening, Hears, NoneHolds, after, done, with_requester, is_fresh}
 use Rattle.at_atp.specs.Transactions.{Transaction, transaction_of, Asked, IsPart, IsResponse}
-use Rattle.at_zip.specs.Page.{Page, Spells}
-use Rattle.at_zip.specs.Reading.{place_after}
-use Rattle.at_zip.specs.Request.{request_user}
-use Rattle.at_transaction_socket.specs.AtpParts.{AtpState, Reading, asking, after_heard}
-use Rattle.at_transaction_socket.specs.AtpParts.{asks as asks_page}
+use Rattle.at_transaction_socket.specs.AtpParts.{AtpState, asking, after_heard}
 use Rattle.at_node.specs.Numbers.{drawn_by}
 use Rattle.at_node.specs.Nodes.{with_atp, NodeState}
 use Rattle.at_event.specs.Outcomes.{over, Outcome}
 use Rattle.at_transaction_socket.specs.RequesterSocket.{AtRequester, reported_other}
-use Rattle.at_transaction_socket.specs.ZoneReading.{AsksOn, ReadsPage, is_page, is_reading, names_read}
-use Rattle.at_transaction_socket.specs.ZoneReading.{page_transaction}
-use Rattle.at_transaction_socket.specs.ZoneReading.{table_read}
+use Rattle.at_transaction_socket.specs.ZoneReading.{ReadsPage, is_page, is_reading, names_read}
 use Rattle.at_node.specs.declared.numbers.Draw.TheVariants.{Tid}
 use Rattle.at_event.specs.declared.Report.{Report}
 use Rattle.at_event.specs.declared.Report.TheVariants as report
 use Rattle.at_event.specs.declared.transactions.TransactionReport.TheVariants as atp_report
-use Rattle.at_event.specs.declared.zones.ZoneReport.TheVariants as zip_report
 use Rattle.at_steps.specs.Acts.{Gets}
 use Rattle.at_steps.specs.AtpReports.{Matches}
 use Rattle.at_steps.specs.AtpHappenings.{Stands, IsOpen}
-use Rattle.at_steps.specs.AtpSteps as steps
-use Rattle.at_steps.specs.AtpSteps.{All, ComesToReading, Ends, Faulty, HasRead, Plain, Tells, TooMany, page_asked}
-use Rattle.at_steps.proofs.Atp.Asking.{asks_fit, begun_is_open}
+use Rattle.at_steps.specs.AtpSteps.{Ends, Plain}
 use Rattle.at_steps.proofs.Atp.Below.{HearingLaws}
 use Rattle.at_steps.proofs.Atp.Coming.{in_time}
-use Rattle.at_steps.proofs.Atp.Moves.{IsIts, StepTo, it_draws, it_ends, requester_happens, turned_happens}
-use Rattle.at_steps.proofs.Atp.Stories.{is_quiet, ends_match, hears_matches, turns_match}
+use Rattle.at_steps.proofs.Atp.Moves.{requester_happens}
+use Rattle.at_steps.proofs.Atp.PageHeard.{page_happens}
+use Rattle.at_steps.proofs.Atp.Standing.{IsIts, StepTo}
+use Rattle.at_steps.proofs.Atp.Stories.{is_quiet, ends_match, hears_matches}
 use Rattle.at_steps.proofs.Atp.Timers.{reads_it, reads_another}
 
 -- ---- the transaction that reads
@@ -80,13 +72,18 @@ module _ (A : Type 0) (laws : HearingLaws A) (history : List Happening) (n : Nod
     (to_is : s.to ≡ asking n.seat.net n.seat.number)
     (place : ℕ) (eom sts : Bool) (tid : ℕ) (user bytes : List ℕ)
     (packet_is : s.packet ≡ Response place eom sts tid user bytes) where
+  abbrev came_in : Content
+  came_in = Response place eom sts tid user bytes
+
+  -- what the requester makes of it
+  abbrev taken : requests.Heard A
+  taken = heard {A = A} n.atp.requester s.from came_in
+
   its_requester : (after A history).requesters s.to ≡ n.atp.requester
   its_requester = ap (after A history).requesters to_is ∙ st.requester
 
   is_done : done A (after A history) (Hears which)
-      ≡ with_requester (after A history) (asking n.seat.net n.seat.number)
-      (heard {A = A} n.atp.requester s.from (Response place eom sts tid user bytes)).after
-      (heard {A = A} n.atp.requester s.from (Response place eom sts tid user bytes)).sent
+      ≡ with_requester (after A history) (asking n.seat.net n.seat.number) taken.after taken.sent
   is_done = ap (network.hears A (after A history)) was_sent
       ∙ (λ i. with_requester (after A history) (to_is i) (heard {A = A} (its_requester i) s.from (packet_is i)).after
       (heard {A = A} (its_requester i) s.from (packet_is i)).sent)
@@ -107,9 +104,8 @@ module _ (A : Type 0) (laws : HearingLaws A) (history : List Happening) (n : Nod
       )
 
   -- if the transaction reads, and the packet ends it, it is the page that the reading asked for
-  ends_it : is_reading n.atp.reading tid ≡ true
-      → is_finished (heard {A = A} n.atp.requester s.from (Response place eom sts tid user bytes)).step ≡ true
-      → is_page A n.atp s.from (Response place eom sts tid user bytes) ≡ true
+  ends_it : is_reading n.atp.reading tid ≡ true → is_finished taken.step ≡ true
+      → is_page A n.atp s.from came_in ≡ true
   ends_it mine ended =
       let it = reads_it n.atp.reading tid mine in
       let opened : has_number n.atp.requester.standing tid ≡ true = ap (has_number n.atp.requester.standing) (sym it.2)
@@ -134,224 +130,40 @@ module _ (A : Type 0) (laws : HearingLaws A) (history : List Happening) (n : Nod
       some_transaction h = cc
 
   -- a packet that is no page leaves a reading open
-  away : is_page A n.atp s.from (Response place eom sts tid user bytes) ≡ false
-      → is_finished (heard {A = A} n.atp.requester s.from (Response place eom sts tid user bytes)).step ≡ true
-      → is_reading n.atp.reading tid ≡ false
+  away : is_page A n.atp s.from came_in ≡ false → is_finished taken.step ≡ true → is_reading n.atp.reading tid ≡ false
   away other ended = go (is_reading n.atp.reading tid) refl
     where
       go : (b : Bool) → is_reading n.atp.reading tid ≡ b → b ≡ false
       go false e = refl
       go true e = absurd (false≢true (sym other ∙ ends_it e ended))
 
-  goes_on : (is_finished (heard {A = A} n.atp.requester s.from (Response place eom sts tid user bytes)).step ≡ true
-      → is_reading n.atp.reading tid ≡ false)
-      → IsOpen (record n.atp {
-        requester =
-            (heard {A = A} n.atp.requester s.from (Response place eom sts tid user bytes)).after;
-      })
-  goes_on apart r reads = laws.heard_stays n.atp.requester s.from (Response place eom sts tid user bytes) r.tid
+  goes_on : (is_finished taken.step ≡ true → is_reading n.atp.reading tid ≡ false)
+      → IsOpen (record n.atp { requester = taken.after })
+  goes_on apart r reads = laws.heard_stays n.atp.requester s.from came_in r.tid
       (st.is_open r reads) (λ finished. reads_another n.atp.reading tid r (apart finished) reads)
-
-  nothing_open : (x : Requests) → IsOpen (record n.atp { requester = x; reading = None })
-  nothing_open x r reads = absurd (cc)
 
   -- a step of a transaction that goes on, or of another than the reading's
   steps_so : (r : Report A) (o : Outcome A AtpState) → drawn_by r ≡ None
       → Matches n.seat.net n.seat.number n.atp.tables (after A history) (Hears which) (Gets which) r
-      → (is_finished (heard {A = A} n.atp.requester s.from (Response place eom sts tid user bytes)).step ≡ true
-      → is_reading n.atp.reading tid ≡ false) →
-      StepTo A history n (Gets which) (after A history).asked
-      (record n.atp {
-        requester =
-            (heard {A = A} n.atp.requester s.from (Response place eom sts tid user bytes)).after;
-      }) r →
-      o ≡ after_heard n.seat n.atp (heard {A = A} n.atp.requester s.from (Response place eom sts tid user bytes)) r
-      n.atp.reading → IsIts A history n (Gets which) (over (with_atp n) o)
+      → (is_finished taken.step ≡ true → is_reading n.atp.reading tid ≡ false)
+      → StepTo A history n (Gets which) (after A history).asked (record n.atp { requester = taken.after }) r
+      → o ≡ after_heard n.seat n.atp taken r n.atp.reading → IsIts A history n (Gets which) (over (with_atp n) o)
   steps_so r o none matches apart step is = subst (λ p. IsIts A history n (Gets which) (over (with_atp n) p)) (sym is)
-      (requester_happens A history n (Gets which) st (Hears which)
-      (heard {A = A} n.atp.requester s.from (Response place eom sts tid user bytes)).after n.atp.reading
-      (heard {A = A} n.atp.requester s.from (Response place eom sts tid user bytes)).sent r
-      (in_time (after A history) which s was_sent fresh) tt is_done none
-      (goes_on apart) matches step)
+      (requester_happens A history n (Gets which) st (Hears which) taken.after n.atp.reading taken.sent r
+      (in_time (after A history) which s was_sent fresh) tt is_done none (goes_on apart) matches step)
 
   -- a step with a report that says nothing of transactions
   plainly : (r : Report A) (o : Outcome A AtpState) → drawn_by r ≡ None → is_quiet r (Gets which) ≡ true
-      → (x : Stepped A) → (heard {A = A} n.atp.requester s.from (Response place eom sts tid user bytes)).step ≡ x
-      → is_finished x ≡ false →
-      StepTo A history n (Gets which) (after A history).asked
-      (record n.atp {
-        requester =
-            (heard {A = A} n.atp.requester s.from (Response place eom sts tid user bytes)).after;
-      }) r →
-      o ≡ after_heard n.seat n.atp (heard {A = A} n.atp.requester s.from (Response place eom sts tid user bytes)) r
-      n.atp.reading → IsIts A history n (Gets which) (over (with_atp n) o)
+      → (x : Stepped A) → taken.step ≡ x → is_finished x ≡ false
+      → StepTo A history n (Gets which) (after A history).asked (record n.atp { requester = taken.after }) r
+      → o ≡ after_heard n.seat n.atp taken r n.atp.reading → IsIts A history n (Gets which) (over (with_atp n) o)
   plainly r o none quiet x is goes step at =
       steps_so r o none (hears_matches A n.seat.net n.seat.number n.atp.tables (after A history) which
       (Gets which) r quiet) (λ finished. absurd (false≢true (sym goes ∙ ap is_finished (sym is) ∙ finished))) step at
 
-  -- ---- the page that a reading asked for
-
-  module _ (r : Reading) (reads : n.atp.reading ≡ Some r) (numbered : r.tid ≡ tid)
-      (mine : is_page A n.atp s.from (Response place eom sts tid user bytes) ≡ true)
-      (on_net : (s.from).net ≡ n.seat.net) where
-    abbrev came : (ts : List Transaction) (now : AtpState) (told : Report A)
-        → ComesToReading n.seat.net n.seat.number
-        (record {
-          asked = (after A history).asked;
-          now_asked = ts;
-          part = n.atp;
-          now = now;
-          act = Gets which;
-          report = told;
-        })
-    came ts now told =
-        let p = part in
-        let a = p.0 in
-        record {
-          which = which;
-          act = refl;
-          read = r;
-          reads = reads;
-          from = s.from;
-          newest = record {
-            transaction = a.transaction;
-            newest = ap (transaction_of (after A history).asked (asking n.seat.net n.seat.number)) numbered
-                ∙ a.newest;
-            asked_it = a.asked_it;
-          };
-          place = place;
-          ends = eom;
-          packet = record { user = user; data_ = bytes };
-          part = p.1;
-        }
-
-    reading_ends : (told : Report A) (o : Outcome A AtpState) → drawn_by told ≡ None → is_quiet told (Gets which)
-        ≡ true → Tells r.which r.names (record { user = user; data_ = bytes }) told →
-        o ≡ after_heard n.seat n.atp (heard {A = A} n.atp.requester s.from (Response place eom sts tid user bytes))
-        told None → IsIts A history n (Gets which) (over (with_atp n) o)
-    reading_ends told o none quiet tells is =
-        subst (λ x. IsIts A history n (Gets which) (over (with_atp n) x)) (sym is)
-        (requester_happens A history n (Gets which) st (Hears which)
-        (heard {A = A} n.atp.requester s.from (Response place eom sts tid user bytes)).after None
-        (heard {A = A} n.atp.requester s.from (Response place eom sts tid user bytes)).sent told
-        (in_time (after A history) which s was_sent fresh) tt is_done none
-        (nothing_open (heard {A = A} n.atp.requester s.from (Response place eom sts tid user bytes)).after)
-        (hears_matches A n.seat.net n.seat.number n.atp.tables (after A history) which (Gets which) told quiet)
-        (HasRead (record {
-          came = came (after A history).asked
-              (record n.atp {
-                requester =
-                    (heard {A = A} n.atp.requester s.from (Response place eom sts tid user bytes)).after;
-                reading = None;
-              })
-              told;
-          tells = tells;
-          asked = refl;
-          reading = refl;
-        })))
-
-    ended : finishes A n.atp.requester s.from (Response place eom sts tid user bytes) ≡ true
-    ended = (and_parts (is_reading n.atp.reading tid)
-        (finishes A n.atp.requester s.from (Response place eom sts tid user bytes)) mine).1
-
-    reading_turns : (p : Page) (o : Outcome A AtpState) → Spells user bytes p → p.last ≡ false
-        → length r.names + length p.names ≤ 1024
-        → ((k : ℕ) → drawn_by o.report ≡ Some (Tid k)
-        → NoneHolds (after A history).responders (asking n.seat.net n.seat.number) k) →
-        AsksOn n.seat n.atp (heard {A = A} n.atp.requester s.from (Response place eom sts tid user bytes)) s.from
-        (r.names ++ p.names) o → IsIts A history n (Gets which) (over (with_atp n) o)
-    reading_turns p o spelled last few free asks =
-        let names = r.names ++ p.names in
-        let kind = table_read n.atp.reading in
-        let k = asks.tid in
-        let as_packet : finishes A n.atp.requester s.from s.packet
-        ≡ true = ap (finishes A n.atp.requester s.from) packet_is ∙ ended in
-        let drawn : next_number (heard {A = A} n.atp.requester s.from s.packet).after
-        ≡ Some k = ap (λ f. next_number (heard {A = A} n.atp.requester s.from f).after) packet_is ∙ asks.drawn in
-        let nothing : (heard {A = A} n.atp.requester s.from s.packet).sent
-        ≡ [] = ap (λ f. (heard {A = A} n.atp.requester s.from f).sent) packet_is
-        ∙ laws.quiet_end n.atp.requester s.from (Response place eom sts tid user bytes) ended in
-        let free_now : NoneHolds (after A history).responders (asking n.seat.net n.seat.number) k =
-        free k (ap (λ (x : Outcome A AtpState). drawn_by x.report) asks.outcome) in
-        subst (λ x. IsIts A history n (Gets which) (over (with_atp n) x)) (sym asks.outcome)
-        (subst (λ (q : Requests). IsIts A history n (Gets which)
-        (over (with_atp n) (asks_page n.seat (record n.atp { requester = q })
-        (Some (record { which = kind; tid = k; names = names })) (page_transaction s.from kind names k))))
-        (ap (λ f. (heard {A = A} n.atp.requester s.from f).after) packet_is)
-        (turned_happens A history n (Gets which) st which s
-        (request_user kind (place_after names)) 3 k was_sent to_is as_packet drawn nothing
-        (Some (record { which = kind; tid = k; names = names })) (in_time
-        (after A history) which s was_sent fresh) free_now
-        (asks_fit kind names) on_net
-        (λ q is. begun_is_open (heard {A = A} n.atp.requester s.from s.packet).after
-        (page_transaction s.from kind names k)
-        (record { which = kind; tid = k; names = names }) q refl is)
-        (turns_match A n.seat.net n.seat.number n.atp.tables (after A history) which s
-        (request_user kind (place_after names)) 3 k
-        (it_ends A history n (Gets which) st which s
-        (request_user kind (place_after names)) 3 k was_sent to_is as_packet drawn nothing)
-        (it_draws A history n (Gets which) st which s
-        (request_user kind (place_after names)) 3 k was_sent to_is as_packet drawn nothing) to_is)
-        (steps.Turns (record {
-          came = came (page_asked n.seat.net n.seat.number s.from kind names k ∷ (after A history).asked)
-              (record n.atp {
-                requester = begun (heard {A = A} n.atp.requester s.from s.packet).after
-                    (page_transaction s.from kind names k);
-                reading = Some (record { which = kind; tid = k; names = names });
-              }) (report.Transactions (atp_report.Begun k));
-          page = p;
-          spelled = spelled;
-          last = last;
-          few = few;
-          tid = k;
-          report = refl;
-          asked = ap (λ v. page_asked n.seat.net n.seat.number s.from v names k ∷ (after A history).asked)
-              (ap table_read reads);
-          reading = ap (λ v. Some (record { which = v; tid = k; names = names })) (ap table_read reads);
-        }))))
-
-    page_happens : (o : Outcome A AtpState)
-        → ((k : ℕ) → drawn_by o.report ≡ Some (Tid k)
-        → NoneHolds (after A history).responders (asking n.seat.net n.seat.number) k) →
-        ReadsPage n.seat n.atp (heard {A = A} n.atp.requester s.from (Response place eom sts tid user bytes)) s.from
-        r.names (record { user = user; data_ = bytes }) o → IsIts A history n (Gets which) (over (with_atp n) o)
-    page_happens o free (inr h) = reading_ends (report.Zones (zip_report.Fault h.number)) o refl refl
-        (Faulty (record { fault = h.fault; number = h.number; first = h.first; tells = refl })) h.outcome
-    page_happens o free (inl h) = go (nat_lt 1024 (length r.names + length (h.page).names))
-        (h.page).last refl refl h.outcome
-      where
-        go : (long last : Bool) → nat_lt 1024 (length r.names + length (h.page).names) ≡ long → (h.page).last ≡ last →
-            MatchBool long (o ≡ after_heard n.seat n.atp
-            (heard {A = A} n.atp.requester s.from (Response place eom sts tid user bytes))
-            (report.Zones (zip_report.Fault 34)) None)
-            (MatchBool last (o ≡ after_heard n.seat n.atp
-            (heard {A = A} n.atp.requester s.from (Response place eom sts tid user bytes))
-            (report.Zones (zip_report.List (table_read n.atp.reading) (r.names ++ (h.page).names))) None)
-            (AsksOn n.seat n.atp (heard {A = A} n.atp.requester s.from (Response place eom sts tid user bytes))
-            s.from (r.names ++ (h.page).names) o)) →
-            IsIts A history n (Gets which) (over (with_atp n) o)
-        go true last e f g = reading_ends (report.Zones (zip_report.Fault 34)) o refl refl
-            (TooMany (record {
-              page = h.page;
-              spelled = h.spelled;
-              many = ltb-true 1024 (length r.names + length (h.page).names) e;
-              tells = refl;
-            })) g
-        go false true e f g =
-            reading_ends (report.Zones (zip_report.List (table_read n.atp.reading) (r.names ++ (h.page).names))) o
-            refl refl (All (record {
-              page = h.page;
-              spelled = h.spelled;
-              last = f;
-              tells = ap (λ v. report.Zones (zip_report.List v (r.names ++ (h.page).names))) (ap table_read reads);
-            })) g
-        go false false e f g = reading_turns h.page o h.spelled f
-            (ltb-false 1024 (length r.names + length (h.page).names) e) free g
-
   -- ---- the end of another transaction
 
-  response : (packets : List Packet)
-      → (heard {A = A} n.atp.requester s.from (Response place eom sts tid user bytes)).step ≡ step.Finished packets
+  response : (packets : List Packet) → taken.step ≡ step.Finished packets
       → (a : Transaction) × (transaction_of (after A history).asked (asking n.seat.net n.seat.number) tid ≡ Some a)
       × IsResponse a packets
   response packets ended =
@@ -366,11 +178,9 @@ module _ (A : Type 0) (laws : HearingLaws A) (history : List Happening) (n : Nod
       )
 
   -- a packet that no reading asked for
-  other_happens : is_page A n.atp s.from (Response place eom sts tid user bytes) ≡ false
-      → (x : Stepped A) (o : Outcome A AtpState)
-      → (heard {A = A} n.atp.requester s.from (Response place eom sts tid user bytes)).step ≡ x →
-      o ≡ after_heard n.seat n.atp (heard {A = A} n.atp.requester s.from (Response place eom sts tid user bytes))
-      (reported_other tid x) n.atp.reading → IsIts A history n (Gets which) (over (with_atp n) o)
+  other_happens : is_page A n.atp s.from came_in ≡ false → (x : Stepped A) (o : Outcome A AtpState) → taken.step ≡ x
+      → o ≡ after_heard n.seat n.atp taken (reported_other tid x) n.atp.reading
+      → IsIts A history n (Gets which) (over (with_atp n) o)
   other_happens other step.Ignored o is at = plainly report.Ignored o refl refl step.Ignored is refl
       (Plain (record { plain = refl; asked = refl; reading = refl })) at
   other_happens other step.Kept o is at =
@@ -407,26 +217,19 @@ module _ (A : Type 0) (laws : HearingLaws A) (history : List Happening) (n : Nod
   pub response_happens : (s.from).net ≡ n.seat.net → (o : Outcome A AtpState)
       → ((k : ℕ) → drawn_by o.report ≡ Some (Tid k)
       → NoneHolds (after A history).responders (asking n.seat.net n.seat.number) k) →
-      AtRequester n.seat n.atp s.from (Response place eom sts tid user bytes) o
-      → IsIts A history n (Gets which) (over (with_atp n) o)
-  response_happens on_net o free at = go (is_page A n.atp s.from (Response place eom sts tid user bytes)) refl at
+      AtRequester n.seat n.atp s.from came_in o → IsIts A history n (Gets which) (over (with_atp n) o)
+  response_happens on_net o free at = go (is_page A n.atp s.from came_in) refl at
     where
-      go : (b : Bool) → is_page A n.atp s.from (Response place eom sts tid user bytes) ≡ b →
-          MatchBool b (ReadsPage n.seat n.atp
-          (heard {A = A} n.atp.requester s.from (Response place eom sts tid user bytes)) s.from
+      go : (b : Bool) → is_page A n.atp s.from came_in ≡ b →
+          MatchBool b (ReadsPage n.seat n.atp taken s.from
           (names_read n.atp.reading) (record { user = user; data_ = bytes }) o)
-          (o ≡ after_heard n.seat n.atp
-          (heard {A = A} n.atp.requester s.from (Response place eom sts tid user bytes))
-          (reported_other tid (heard {A = A} n.atp.requester s.from (Response place eom sts tid user bytes)).step)
-          n.atp.reading) →
-          IsIts A history n (Gets which) (over (with_atp n) o)
+          (o ≡ after_heard n.seat n.atp taken (reported_other tid taken.step) n.atp.reading)
+          → IsIts A history n (Gets which) (over (with_atp n) o)
       go true e g =
           let it = reads_it n.atp.reading tid
-          (and_parts (is_reading n.atp.reading tid)
-          (finishes A n.atp.requester s.from (Response place eom sts tid user bytes)) e).0 in
-          page_happens it.0 it.1 it.2 e on_net o free
-          (subst (λ l. ReadsPage n.seat n.atp
-          (heard {A = A} n.atp.requester s.from (Response place eom sts tid user bytes)) s.from l
-          (record { user = user; data_ = bytes }) o) (ap names_read it.1) g)
-      go false e g = other_happens e
-          (heard {A = A} n.atp.requester s.from (Response place eom sts tid user bytes)).step o refl g
+          (and_parts (is_reading n.atp.reading tid) (finishes A n.atp.requester s.from came_in) e).0 in
+          page_happens A laws history n st which s was_sent fresh to_is place eom sts tid user bytes packet_is part
+          is_done it.0 it.1 it.2 e on_net o free
+          (subst (λ l. ReadsPage n.seat n.atp taken s.from l (record { user = user; data_ = bytes }) o)
+          (ap names_read it.1) g)
+      go false e g = other_happens e taken.step o refl g

@@ -5,7 +5,7 @@ use Rattle.at_event.specs.Outcomes.{Outcome}
 use Rattle.at_node.specs.Nodes.{NodeState}
 use Rattle.at_session.specs.Sessions.{SessionState}
 use Rattle.at_steps.specs.Acts.{Act}
-use Rattle.at_steps.proofs.Atp.Moves.{IsIts}
+use Rattle.at_steps.proofs.Atp.Standing.{IsIts}
 use Rattle.at_steps.proofs.Kept.{in_session}
 
 pub keeping : (A : Type 0) (history : List Happening) (n : NodeState) (act : Act A) (o : Outcome A NodeState)

@@ -30,7 +30,8 @@ use Rattle.at_steps.specs.AtpHappenings.{Stands}
 use Rattle.at_steps.specs.AtpSteps.{Plain, is_plain}
 use Rattle.at_steps.proofs.Atp.Below.{HearingLaws}
 use Rattle.at_steps.proofs.Atp.Coming.{in_time}
-use Rattle.at_steps.proofs.Atp.Moves.{IsIts, idle_happens, service_happens}
+use Rattle.at_steps.proofs.Atp.Moves.{idle_happens, service_happens}
+use Rattle.at_steps.proofs.Atp.Standing.{IsIts}
 use Rattle.at_steps.proofs.Atp.Stories.{is_quiet, takes_quietly, takes_new, release_is_old, release_is_quiet}
 
 -- whatever is reported of a release says nothing of transactions

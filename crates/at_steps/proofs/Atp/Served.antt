@@ -40,7 +40,8 @@ use Rattle.at_steps.specs.AtpHappenings.{Stands}
 use Rattle.at_steps.specs.AtpSteps.{Plain, is_plain}
 use Rattle.at_steps.proofs.Atp.Below.{HearingLaws}
 use Rattle.at_steps.proofs.Atp.Coming.{in_time}
-use Rattle.at_steps.proofs.Atp.Moves.{IsIts, idle_happens, zones_happen, gave_happens, with_served}
+use Rattle.at_steps.proofs.Atp.Moves.{idle_happens, zones_happen, gave_happens}
+use Rattle.at_steps.proofs.Atp.Standing.{IsIts, with_served}
 use Rattle.at_steps.proofs.Atp.Requested.{asks, release_is_plain}
 use Rattle.at_steps.proofs.Atp.Stories.{is_quiet, takes_quietly, serves_new, release_is_old, release_is_quiet}
 use Rattle.at_steps.proofs.Atp.Values.{put_twice}
@@ -173,7 +174,7 @@ module _ (A : Type 0) (laws : HearingLaws A) (history : List Happening) (n : Nod
         (taken n.atp.zone_responder s.from (Request mask xo timer tid user bytes)).after
         (after_answer (taken n.atp.zone_responder s.from (Request mask xo timer tid user bytes)).after key
         (page_packet table start ∷ [])) at
-        ∙ with_served A history n (Gets which) st
+        ∙ with_served A history n st
         (after_answer (taken n.atp.zone_responder s.from (Request mask xo timer tid user bytes)).after key
         (page_packet table start ∷ [])) at)
         (ap (λ (x : Network). x.sent) d

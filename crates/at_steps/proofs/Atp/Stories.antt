@@ -4,7 +4,7 @@ use Rattle.std.specs.Prelude.{find, is_none, ◌&&◌}
 use Rattle.std.proofs.lemmas.Bool.{false≢true}
 use Rattle.at_ddp.specs.Address.{same_address}
 use Rattle.at_ddp.specs.declared.address.Address.{Address}
-use Rattle.at_atp.specs.HandUps.{brings, is_drawn, is_drawn_after}
+use Rattle.at_atp.specs.HandUps.{brings, draws, expires_there, is_drawn, is_drawn_after, is_handed_up}
 use Rattle.at_atp_frame.specs.Frames.{number_of}
 use Rattle.at_ddp.specs.Posts.{packet_at}
 use Rattle.at_atp.specs.Network.{Network, Sent, ending, number_after, Begins, Turns, Answers, Hears, Takes, Serves}
@@ -30,11 +30,9 @@ use Rattle.at_event.specs.declared.transactions.TransactionReport.TheVariants as
 use Rattle.at_event.specs.declared.zones.ZoneReport.TheVariants as zip_report
 use Rattle.at_event.specs.declared.Timer.TheVariants as timer
 use Rattle.at_event.specs.declared.transactions.TransactionTimer.TheVariants as atp_timer
-use Rattle.at_event.specs.declared.names.NameTimer.TheVariants as nbp_timer
-use Rattle.at_event.specs.declared.streams.StreamTimer.TheVariants as adsp_timer
 use Rattle.at_steps.specs.Acts.{Act, Calls, Fires, Gets, Forges}
-use Rattle.at_steps.specs.AtpReports.{IsPageAsked, Matches, Joins, Finishes, Ends, asks_once, asks_for, began_under}
-use Rattle.at_steps.specs.AtpReports.{expired_at, handed_up_by, came_under}
+use Rattle.at_steps.specs.AtpReports.{AnswersAs, BeginsAs, IsPageAsked, Matches, Joins, Finishes, Ends, TakesIn}
+use Rattle.at_steps.specs.AtpReports.{asks_once, asks_for, began_under, expired_at, handed_up_by, came_under}
 
 -- an event whose report tells of no beginning, no request, no response and no expiry
 abbrev pub is_quiet : {A : Type 0} → Report A → Act A → Bool
@@ -62,16 +60,9 @@ no_hand_up A sent Forges r key q = refl
 
 no_expiry : (A : Type 0) (net number : ℕ) (act : Act A) (r : Report A) (at : Address) (key : Key) → is_quiet r act
     ≡ true → expired_at net number act r at key ≡ false
-no_expiry A net number (Calls call) r at key q = refl
-no_expiry A net number (Gets which) r at key q = refl
-no_expiry A net number (Fires (timer.Transactions (atp_timer.Retry tid))) r at key q = refl
 no_expiry A net number (Fires (timer.Transactions (atp_timer.Release own k))) (report.Transactions atp_report.Expired)
     at key q = absurd (false≢true q)
-no_expiry A net number (Fires (timer.Transactions (atp_timer.Release own k))) r at key q = refl
-no_expiry A net number (Fires (timer.Names (nbp_timer.Lookup id))) r at key q = refl
-no_expiry A net number (Fires (timer.Streams (adsp_timer.Resend id))) r at key q = refl
-no_expiry A net number (Fires (timer.Streams (adsp_timer.Probe id))) r at key q = refl
-no_expiry A net number Forges r at key q = refl
+no_expiry A net number act r at key q = refl
 
 no_end : (A : Type 0) (net number : ℕ) (n : Network) (act : Act A) (r : Report A) → is_quiet r act ≡ true
     → Finishes net number n act r
@@ -95,19 +86,26 @@ no_answer A n h (Gets which) (report.Transactions (atp_report.Answered count)) q
 no_answer A n h act r q = tt
 
 module _ (A : Type 0) (net number : ℕ) (tables : Option Tables) (n : Network) where
+  -- a happening that draws no number and removes no record, if the report is quiet and nothing is delivered
+  quietly : (h : Happening) (act : Act A) (r : Report A) → is_quiet r act ≡ true
+      → ((key : Key) → draws A n h key ≡ false) → ((at : Address) (key : Key) → expires_there n h at key ≡ false)
+      → ((key : Key) → is_handed_up n h key ≡ false) → TakesIn h act → BeginsAs h act → AnswersAs tables n h act r
+      → Matches net number tables n h act r
+  quietly h act r q drawn removed delivered takes begins answers = record {
+    draws_it = λ key. drawn key ∙ sym (no_begin A net number act r key q);
+    expires_it = λ at key. removed at key ∙ sym (no_expiry A net number act r at key q);
+    hands_up = λ key. delivered key ∙ sym (no_hand_up A n.sent act r key q);
+    takes_in = takes;
+    begins_as = begins;
+    answers_as = answers;
+    joins = no_answer A n h act r q;
+    finishes = no_end A net number n act r q;
+  }
+
   pub other_matches : (count : ℕ) (act : Act A) (r : Report A) → is_quiet r act ≡ true
       → Matches net number tables n (Other count) act r
   other_matches count act r q =
-      record {
-        draws_it = λ key. sym (no_begin A net number act r key q);
-        expires_it = λ at key. sym (no_expiry A net number act r at key q);
-        hands_up = λ key. sym (no_hand_up A n.sent act r key q);
-        takes_in = tt;
-        begins_as = tt;
-        answers_as = tt;
-        joins = no_answer A n (Other count) act r q;
-        finishes = no_end A net number n act r q;
-      }
+      quietly (Other count) act r q (λ key. refl) (λ at key. refl) (λ key. refl) tt tt tt
 
   pub answers_match : (at : Address) (key : Key) (packets : List Packet) (count : ℕ)
       → (done A n (Answers at key packets)).asked ≡ answered n.asked key.from key.tid packets
@@ -128,16 +126,7 @@ module _ (A : Type 0) (net number : ℕ) (tables : Option Tables) (n : Network) 
   pub hears_matches : (which : ℕ) (act : Act A) (r : Report A) → is_quiet r act ≡ true
       → Matches net number tables n (Hears which) act r
   hears_matches which act r q =
-      record {
-        draws_it = λ key. sym (no_begin A net number act r key q);
-        expires_it = λ at key. sym (no_expiry A net number act r at key q);
-        hands_up = λ key. sym (no_hand_up A n.sent act r key q);
-        takes_in = tt;
-        begins_as = tt;
-        answers_as = tt;
-        joins = no_answer A n (Hears which) act r q;
-        finishes = no_end A net number n act r q;
-      }
+      quietly (Hears which) act r q (λ key. refl) (λ at key. refl) (λ key. refl) tt tt tt
 
   -- a packet that ends a transaction
   pub ends_match : (which tid : ℕ) (packets : List Packet) → Ends A net number n which tid packets
@@ -158,16 +147,7 @@ module _ (A : Type 0) (net number : ℕ) (tables : Option Tables) (n : Network) 
   pub retries_match : (who : Address) (tid : ℕ) (act : Act A) (r : Report A) → is_quiet r act ≡ true
       → Matches net number tables n (Retries who tid) act r
   retries_match who tid act r q =
-      record {
-        draws_it = λ key. sym (no_begin A net number act r key q);
-        expires_it = λ at key. sym (no_expiry A net number act r at key q);
-        hands_up = λ key. sym (no_hand_up A n.sent act r key q);
-        takes_in = tt;
-        begins_as = tt;
-        answers_as = tt;
-        joins = no_answer A n (Retries who tid) act r q;
-        finishes = no_end A net number n act r q;
-      }
+      quietly (Retries who tid) act r q (λ key. refl) (λ at key. refl) (λ key. refl) tt tt tt
 
   -- a transaction begins under the next number
   pub begins_match : (tid : ℕ) (to : Address) (user bytes : List ℕ) (wanted : ℕ) (xo : Bool) (retries : ℕ)
@@ -209,17 +189,9 @@ module _ (A : Type 0) (net number : ℕ) (tables : Option Tables) (n : Network) 
     pub takes_quietly : (r : Report A) (x : Reception) → (taken (n.responders s.to) s.from s.packet).reception ≡ x
         → ((key : Key) → is_new_of key x ≡ false) → is_quiet r (Gets which) ≡ true
         → Matches net number tables n (Takes which) (Gets which) r
-    takes_quietly r x is old q = record {
-      draws_it = λ key. sym (no_begin A net number (Gets which) r key q);
-      expires_it = λ at key. sym (no_expiry A net number (Gets which) r at key q);
-      hands_up = λ key. ap (brings n key) was_sent ∙ ap (is_new_of key) is ∙ old key
-          ∙ sym (no_hand_up A n.sent (Gets which) r key q);
-      takes_in = refl;
-      begins_as = tt;
-      answers_as = tt;
-      joins = no_answer A n (Takes which) (Gets which) r q;
-      finishes = no_end A net number n (Gets which) r q;
-    }
+    takes_quietly r x is old q =
+        quietly (Takes which) (Gets which) r q (λ key. refl) (λ at key. refl)
+        (λ key. ap (brings n key) was_sent ∙ ap (is_new_of key) is ∙ old key) refl tt tt
 
     -- a request that is delivered
     pub takes_new : (key : Key) (user bytes : List ℕ) → (taken (n.responders s.to) s.from s.packet).reception

@@ -31,15 +31,14 @@ use Rattle.at_event.specs.declared.zones.ZoneReport.TheVariants as zip_report
 use Rattle.at_event.specs.declared.Timer.{Timer}
 use Rattle.at_event.specs.declared.Timer.TheVariants as timer
 use Rattle.at_event.specs.declared.transactions.TransactionTimer.TheVariants as atp_timer
-use Rattle.at_event.specs.declared.names.NameTimer.TheVariants as nbp_timer
-use Rattle.at_event.specs.declared.streams.StreamTimer.TheVariants as adsp_timer
-use Rattle.at_steps.specs.Acts.{Fires, is_atp}
+use Rattle.at_steps.specs.Acts.{Fires}
 use Rattle.at_steps.specs.AtpReports.{Matches}
-use Rattle.at_steps.specs.AtpHappenings.{Stands, IsOpen}
+use Rattle.at_steps.specs.AtpHappenings.{Stands, IsOpen, is_atp}
 use Rattle.at_steps.specs.AtpSteps.{Plain, Fails}
 use Rattle.at_steps.proofs.Atp.Below.{StaysOpen}
 use Rattle.at_steps.proofs.Atp.Calls.{refused_happens}
-use Rattle.at_steps.proofs.Atp.Moves.{IsIts, idle_happens, requester_happens, service_happens, zones_happen}
+use Rattle.at_steps.proofs.Atp.Moves.{idle_happens, requester_happens, service_happens, zones_happen}
+use Rattle.at_steps.proofs.Atp.Standing.{IsIts}
 use Rattle.at_steps.proofs.Atp.Stories.{expires_match, retries_match}
 
 -- what is closed without an answer sends nothing
@@ -227,6 +226,4 @@ timer_happens A stays history n st (timer.Transactions (atp_timer.Release own ke
     release_happens A history n st own key (own == 129) (own == 6)
     (expiry_fault (find (is_key key)
     (records_at n.atp own))) refl refl refl
-timer_happens A stays history n st (timer.Names (nbp_timer.Lookup id)) its = absurd (cc)
-timer_happens A stays history n st (timer.Streams (adsp_timer.Resend id)) its = absurd (cc)
-timer_happens A stays history n st (timer.Streams (adsp_timer.Probe id)) its = absurd (cc)
+timer_happens A stays history n st other its = absurd (cc)

@@ -29,12 +29,12 @@ use Rattle.at_session.specs.Sessions.{SessionState, finds_kept, pattern_asked, z
 use Rattle.at_node.specs.Nodes.{NodeState, called, with_names}
 use Rattle.at_event.specs.Outcomes.{over}
 use Rattle.at_event.specs.declared.Call.{Call}
-use Rattle.at_event.specs.declared.Call.TheVariants.{Transactions, Zones, Names, Streams, Session}
+use Rattle.at_event.specs.declared.Call.TheVariants.{Names}
 use Rattle.at_event.specs.declared.names.NameCall.TheVariants.{Find, Claim, Finish, Register, Unregister}
 use Rattle.at_event.specs.declared.Report.TheVariants as report
 use Rattle.at_event.specs.declared.names.NameReport.TheVariants as nbp_report
-use Rattle.at_steps.specs.Acts.{Calls, is_nbp}
-use Rattle.at_steps.specs.NameHappenings.{Stands}
+use Rattle.at_steps.specs.Acts.{Calls}
+use Rattle.at_steps.specs.NameHappenings.{Stands, is_nbp}
 use Rattle.at_steps.specs.NameSteps.{Claims, Finds, HasClaimed, HasLost, Looks, Registers, Unregisters}
 use Rattle.at_steps.proofs.Names.Below.{CallLaws}
 use Rattle.at_steps.proofs.Names.Moves.{IsIts, StepTo, draws_none, keeping, moved, refused_moves, stands_lawfully}
@@ -276,9 +276,6 @@ module _ (A : Type 0) (laws : CallLaws A) (setting : Setting) (history : List Ha
 
   pub call_happens : (call : Call A) → IsCall call → is_nbp (kind_of_call call) ≡ true
       → IsIts A setting history n (Calls call) (called n call)
-  call_happens (Zones call) range its = absurd (cc)
-  call_happens (Transactions call) range its = absurd (cc)
-  call_happens (Session call) range its = absurd (cc)
   call_happens (Names (Find object kind zone)) range its =
       finding object kind zone range.0 range.1 range.2 (next_id n.names.lookups) refl
   call_happens (Names (Claim object kind socket)) range its = claiming_name object kind socket range.0 range.1 range.2
@@ -290,4 +287,4 @@ module _ (A : Type 0) (laws : CallLaws A) (setting : Setting) (history : List Ha
       (register_fault n.names.table.names object kind) refl
   call_happens (Names (Unregister object kind)) range its =
       unregistering object kind (find (is_called object kind) n.names.table.names) refl
-  call_happens (Streams call) range its = absurd (cc)
+  call_happens other range its = absurd (cc)

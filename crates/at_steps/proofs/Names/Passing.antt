@@ -1,33 +1,32 @@
 -- A step of another protocol leaves names and lookups as they were.
-use Rattle.std.proofs.Common.{◌≡◌, ℕ, false, List, None, refl, sym, ap, subst, ◌∙◌}
+use Rattle.std.proofs.Common.{◌≡◌, ℕ, false, List, Option, Some, None, refl, sym, ap, subst, ◌∙◌}
 use Rattle.std.specs.Prelude.{length, replicate}
 use Rattle.std.proofs.lemmas.Bool.{true≢false}
 use Rattle.at_ddp.specs.declared.address.Address.{Address}
 use Rattle.at_ddp.proofs.PostLemmas.{put_itself}
+use Rattle.at_steps.proofs.Drawing.{draws_its_own}
 use Rattle.at_steps.proofs.Entries.{entries_foreign}
 use Rattle.at_nbp.specs.Network.{Begun, Happening, Other, Setting, after}
 use Rattle.at_name_socket.specs.NameSockets.{SocketState, names_of}
 use Rattle.at_name_socket.specs.Sockets.{IsSocket}
 use Rattle.at_node.specs.Numbers.{drawn_by}
 use Rattle.at_node.specs.Nodes.{NodeState}
+use Rattle.at_node.specs.declared.numbers.Draw.{Draw}
+use Rattle.at_node.specs.declared.numbers.Draw.TheVariants.{Lookup}
 use Rattle.at_event.specs.Kinds.{reporter_of}
 use Rattle.at_event.specs.Outcomes.{Outcome}
 use Rattle.at_event.specs.declared.Report.{Report}
-use Rattle.at_event.specs.declared.Report.TheVariants as report
-use Rattle.at_event.specs.declared.transactions.TransactionReport.TheVariants as atp_report
-use Rattle.at_event.specs.declared.names.NameReport.TheVariants as nbp_report
-use Rattle.at_event.specs.declared.streams.StreamReport.TheVariants as adsp_report
-use Rattle.at_steps.specs.Acts.{Act, is_nbp}
-use Rattle.at_steps.specs.NameHappenings.{BeginsBy, Happens, IsForeign, Stands, name_coding}
+use Rattle.at_steps.specs.Acts.{Act}
+use Rattle.at_steps.specs.NameHappenings.{BeginsBy, Happens, IsForeign, Stands, name_coding, is_nbp}
 
 -- the report of another protocol draws no identifier
 foreign_begins : (A : Type 0) (r : Report A) (event : ℕ) (who : Address) (before : List Begun)
     → is_nbp (reporter_of r) ≡ false → BeginsBy event who (drawn_by r) before before
-foreign_begins A (report.Names (nbp_report.Looking id)) event who before h = absurd (true≢false h)
-foreign_begins A (report.Transactions (atp_report.Begun tid)) event who before h = refl
-foreign_begins A (report.Streams (adsp_report.Opening id)) event who before h = refl
-foreign_begins A (report.Streams (adsp_report.Made id)) event who before h = refl
-foreign_begins A r event who before h = refl
+foreign_begins A r event who before h = go (drawn_by r) refl
+  where
+    go : (o : Option Draw) → drawn_by r ≡ o → BeginsBy event who o before before
+    go (Some (Lookup id)) is = absurd (true≢false (ap is_nbp (sym (draws_its_own A r (Lookup id) is)) ∙ h))
+    go other is = refl
 
 pub foreign_passes : (A : Type 0) (setting : Setting) (history : List Happening) (n : NodeState) (act : Act A)
     → Stands setting history n.seat.net n.seat.number n → (o : Outcome A NodeState) → IsForeign n act o

@@ -13,11 +13,9 @@ use Rattle.at_event.specs.Outcomes.{over}
 use Rattle.at_event.specs.declared.Report.TheVariants as report
 use Rattle.at_event.specs.declared.Timer.{Timer}
 use Rattle.at_event.specs.declared.Timer.TheVariants as timer
-use Rattle.at_event.specs.declared.transactions.TransactionTimer.TheVariants as atp_timer
 use Rattle.at_event.specs.declared.names.NameTimer.TheVariants as nbp_timer
-use Rattle.at_event.specs.declared.streams.StreamTimer.TheVariants as adsp_timer
-use Rattle.at_steps.specs.Acts.{Fires, is_nbp}
-use Rattle.at_steps.specs.NameHappenings.{Stands}
+use Rattle.at_steps.specs.Acts.{Fires}
+use Rattle.at_steps.specs.NameHappenings.{Stands, is_nbp}
 use Rattle.at_steps.specs.NameSteps.{Plain}
 use Rattle.at_steps.proofs.Names.Below.{TimerLaws}
 use Rattle.at_steps.proofs.Names.Moves.{IsIts, moved, refused_moves, stands_lawfully}
@@ -40,8 +38,5 @@ module _ (A : Type 0) (laws : TimerLaws) (setting : Setting) (history : List Hap
 
   pub timer_happens : (time : Timer) → is_nbp (kind_of_timer time) ≡ true
       → IsIts A setting history n (Fires time) (timed n time)
-  timer_happens (timer.Transactions (atp_timer.Retry tid)) its = absurd (cc)
-  timer_happens (timer.Transactions (atp_timer.Release own key)) its = absurd (cc)
   timer_happens (timer.Names (nbp_timer.Lookup id)) its = asking id (search_of n.names.lookups id) refl
-  timer_happens (timer.Streams (adsp_timer.Resend id)) its = absurd (cc)
-  timer_happens (timer.Streams (adsp_timer.Probe id)) its = absurd (cc)
+  timer_happens other its = absurd (cc)

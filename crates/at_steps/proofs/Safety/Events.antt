@@ -1,9 +1,7 @@
 -- Each event of a node is safe.
-use Rattle.std.proofs.Common.{◌≡◌, inl, inr, ℕ, Bool, true, false, List, length}
-use Rattle.std.proofs.Common.{refl, ap, arith}
-use Rattle.std.specs.Prelude.{MatchBool, nat_lt, ◌==◌, ◌||◌}
+use Rattle.std.proofs.Common.{◌≡◌, inl, inr, ℕ, Bool, true, false, List, length, refl, ap, arith}
+use Rattle.std.specs.Prelude.{MatchBool, nat_lt, ◌||◌}
 use Rattle.at_ddp.specs.Datagram.{Content as Datagram}
-use Rattle.at_ddp.specs.Protocols.{atp_kind, nbp_kind, adsp_kind}
 use Rattle.at_atp_responder.specs.Records.{answer_fault}
 use Rattle.at_adsp_end.specs.declared.tick.Tick.TheVariants as tick
 use Rattle.at_event.specs.Outcomes.{Outcome, Over, Through, idle, over}
@@ -47,16 +45,17 @@ use Rattle.at_stream_socket.specs.Calls.{tick_fired, write_called}
 use Rattle.at_stream_socket.specs.Hearing.{HearsStreams}
 use Rattle.at_steps.specs.Safety.{IsPlaceOf, IsPlaceOfCall, IsSafe, Place, Records}
 use Rattle.at_event.specs.declared.Reason.TheVariants.{OfDatagrams, OfNodes}
+use Rattle.at_steps.proofs.Outcomes.{ByAtp, ByNames, ByNobody, ByStreams, IsHeard, heard_by}
 use Rattle.at_steps.proofs.Safety.By.{by, faulted, quiet, refused, through}
-use Rattle.at_steps.proofs.Safety.Names as names
-use Rattle.at_steps.proofs.Safety.Names.{NameLaws}
-use Rattle.at_steps.proofs.Safety.Records as records
-use Rattle.at_steps.proofs.Safety.Records.{RecordLaws}
-use Rattle.at_steps.proofs.Safety.Requests as requests
-use Rattle.at_steps.proofs.Safety.Requests.{NumbersAreFree}
-use Rattle.at_steps.proofs.Safety.Serving as serving
-use Rattle.at_steps.proofs.Safety.Streams as streams
-use Rattle.at_steps.proofs.Safety.Streams.{StreamLaws}
+use Rattle.at_steps.proofs.Names.Safe as names
+use Rattle.at_steps.proofs.Names.Safe.{NameLaws}
+use Rattle.at_steps.proofs.Atp.SafeRecords as records
+use Rattle.at_steps.proofs.Atp.SafeRecords.{RecordLaws}
+use Rattle.at_steps.proofs.Atp.SafeRequests as requests
+use Rattle.at_steps.proofs.Atp.SafeRequests.{NumbersAreFree}
+use Rattle.at_steps.proofs.Atp.SafeServing as serving
+use Rattle.at_steps.proofs.Streams.Safe as streams
+use Rattle.at_steps.proofs.Streams.Safe.{StreamLaws}
 
 -- what the layers below promise
 pub record Laws : Type 0 where
@@ -167,12 +166,15 @@ module _ (A : Type 0) (laws : Laws) (n : NodeState) (within : IsWithin n) where
     ignored o is =
         by A Wants n n o (idle n report.Ignored) is (quiet A Wants n n (idle n report.Ignored) refl (omega arith))
 
-    atp_over : (o : Outcome A NodeState) (p : Outcome A AtpState) → IsSafe Wants n n.atp p → o ≡ over_atp n p → Safe o
-    atp_over o p safe is = by A Wants n n o (over_atp n p) is (record {
-      reason = safe.reason;
-      no_effect = λ k told. ap (over_atp n) (safe.no_effect k told);
-      few = safe.few;
-    })
+    atp_over : (d : Datagram) (o : Outcome A NodeState) → Wants (Records d.to.socket)
+        → Through (over_atp n) (HearsAtp said n.seat n.atp d) o → Safe o
+    atp_over d o here (p, may, is) =
+        let safe = serving.atp_safe A n Wants laws.records said d p here may in
+        by A Wants n n o (over_atp n p) is (record {
+          reason = safe.reason;
+          no_effect = λ k told. ap (over_atp n) (safe.no_effect k told);
+          few = safe.few;
+        })
 
     names_over : (d : Datagram) (o : Outcome A NodeState) → Over (with_names n) (HearsNames n.seat n.names d) o → Safe o
     names_over d o (p, may, is) =
@@ -186,25 +188,17 @@ module _ (A : Type 0) (laws : Laws) (n : NodeState) (within : IsWithin n) where
         (through A Wants n (with_streams n) n.streams p refl
         (streams.streams_safe A n Wants laws.streams within d p may))
 
-    mine_safe : (d : Datagram) (o : Outcome A NodeState) → Wants (Records d.to.socket) → HearsMine said n d o → Safe o
-    mine_safe d o here = go (d.kind == atp_kind) (d.kind == nbp_kind) (d.kind == adsp_kind)
-      where
-        go : (atp nbp adsp : Bool)
-            → MatchBool atp (Through (over_atp n) (HearsAtp said n.seat n.atp d) o)
-            (MatchBool nbp (Over (with_names n) (HearsNames n.seat n.names d) o)
-            (MatchBool adsp (Over (with_streams n) (HearsStreams n.seat n.streams d) o) (o ≡ idle n report.Ignored)))
-            → Safe o
-        go true nbp adsp (p, may, is) =
-            atp_over o p (serving.atp_safe A n Wants laws.records said d p here may) is
-        go false true adsp h = names_over d o h
-        go false false true h = streams_over d o h
-        go false false false h = ignored o h
+    mine_safe : (d : Datagram) (o : Outcome A NodeState) → Wants (Records d.to.socket) → IsHeard said n d o → Safe o
+    mine_safe d o here (ByAtp is h) = atp_over d o here h
+    mine_safe d o here (ByNames is h) = names_over d o h
+    mine_safe d o here (ByStreams is h) = streams_over d o h
+    mine_safe d o here (ByNobody is) = ignored o is
 
     it_safe : (d : Datagram) (o : Outcome A NodeState) → Wants (Records d.to.socket) → HearsIt said n d o → Safe o
     it_safe d o here = go (is_for_all n.seat d.kind d.to || is_mine n.seat d.to)
       where
         go : (b : Bool) → MatchBool b (HearsMine said n d o) (o ≡ idle n report.Ignored) → Safe o
-        go true h = mine_safe d o here h
+        go true h = mine_safe d o here (heard_by A said n d o h)
         go false h = ignored o h
 
   pub datagram_safe : (said : Reply A) (bytes : List ℕ) (o : Outcome A NodeState) → Hears said n bytes o

@@ -29,7 +29,7 @@ use Rattle.at_event.specs.Kinds.{kind_of_call}
 use Rattle.at_event.specs.Outcomes.{over, refused_as}
 use Rattle.at_event.specs.Seats.{at_socket}
 use Rattle.at_event.specs.declared.Call.{Call}
-use Rattle.at_event.specs.declared.Call.TheVariants.{Transactions, Zones, Names, Streams, Session}
+use Rattle.at_event.specs.declared.Call.TheVariants.{Streams}
 use Rattle.at_event.specs.declared.streams.StreamCall.TheVariants.{Open, Listen, Connect, Write, Read, Reset, Close}
 use Rattle.at_event.specs.declared.Report.{Report}
 use Rattle.at_event.specs.declared.Report.TheVariants as report
@@ -41,8 +41,8 @@ use Rattle.at_node.specs.SessionCalls.{open_called}
 use Rattle.at_session.specs.Sessions.{address_at}
 use Rattle.at_stream_socket.specs.Calls as sockets
 use Rattle.at_stream_socket.specs.Sockets.{told_by, told_opening, told_read, told_wrote}
-use Rattle.at_steps.specs.Acts.{Act, Calls, is_adsp}
-use Rattle.at_steps.specs.StreamHappenings.{IsHere, IsOf, IsOpenable, Stands}
+use Rattle.at_steps.specs.Acts.{Act, Calls}
+use Rattle.at_steps.specs.StreamHappenings.{IsHere, IsOf, IsOpenable, Stands, is_adsp}
 use Rattle.at_steps.specs.StreamSteps.{asked_by, HasAsked, HasRead, HasReset, HasWritten, IsStep}
 use Rattle.at_steps.proofs.Streams.Below.{AllChange, AllPaired}
 use Rattle.at_steps.proofs.Streams.Ends.{finds_it, found_id, read_ok, reset_ok, wrote_ok}
@@ -267,10 +267,6 @@ module _ (A : Type 0) (changes : AllChange) (paired : AllPaired) (setting : Sett
   pub call_happens : (call : Call A) → IsCall call → is_adsp (kind_of_call call) ≡ true
       → ((id : ℕ) → drawn_by (called n call).report ≡ Some (Conn id) → NoneNames old at id)
       → IsIts A setting history n (Calls call) (called n call)
-  call_happens (Zones call) range its free = absurd (true≢false (sym its))
-  call_happens (Transactions call) range its free = absurd (true≢false (sym its))
-  call_happens (Session call) range its free = absurd (true≢false (sym its))
-  call_happens (Names call) range its free = absurd (true≢false (sym its))
   call_happens (Streams (Open index)) range its free = opening index (slice_get n.session.finds index) refl free
   call_happens (Streams (Listen on)) range its free = listening on
   call_happens (Streams (Connect node socket)) range its free =
@@ -282,3 +278,4 @@ module _ (A : Type 0) (changes : AllChange) (paired : AllPaired) (setting : Sett
   call_happens (Streams (Read id count)) range its free = reading_ id count
   call_happens (Streams (Reset id)) range its free = resetting id
   call_happens (Streams (Close id)) range its free = closing_ id
+  call_happens other range its free = absurd (true≢false (sym its))

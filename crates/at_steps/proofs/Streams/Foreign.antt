@@ -1,85 +1,31 @@
 -- An event of another protocol leaves the socket for streams as it was.
-use Rattle.std.proofs.Common.{◌≡◌, ℕ, false, List, refl, sym, subst}
+use Rattle.std.proofs.Common.{◌≡◌, false, refl}
 use Rattle.std.specs.Prelude.{◌==◌}
 use Rattle.std.proofs.lemmas.Bool.{true≢false}
-use Rattle.at_ddp.specs.Datagram.{Content as Datagram, BeginsWith, canonical}
-use Rattle.at_ddp.specs.declared.address.Address.{Address}
-use Rattle.at_ddp.specs.Protocols.{atp_kind, nbp_kind, adsp_kind}
-use Rattle.at_event.specs.Kinds.{Kind, Adsp, Atp, Nbp, Nobody, Session, kind_of_call, kind_of_timer, reporter_of}
-use Rattle.at_event.specs.Outcomes.{Outcome}
-use Rattle.at_event.specs.declared.Call.{Call}
-use Rattle.at_event.specs.declared.Timer.{Timer}
-use Rattle.at_event.specs.declared.service.Reply.{Reply}
-use Rattle.at_node.specs.Hearing.{Hears}
-use Rattle.at_node.specs.Nodes.{NodeState, called, timed}
-use Rattle.at_steps.specs.Acts.{Act, Calls, Fires, Gets, is_adsp}
-use Rattle.at_steps.specs.StreamHappenings.{IsForeign}
-use Rattle.at_steps.proofs.Outcomes.{Comes, IsNobodys, call_comes, datagram_comes, others_sent, timer_comes}
-use Rattle.at_steps.proofs.AtpOutcomes.{IsOfAtp}
-use Rattle.at_steps.proofs.NameOutcomes.{IsOfNbp}
+use Rattle.at_ddp.specs.Protocols.{adsp_kind}
+use Rattle.at_adsp_ends.specs.Tables.{EndTable}
+use Rattle.at_event.specs.Kinds.{Kind, Adsp}
+use Rattle.at_node.specs.Nodes.{NodeState}
+use Rattle.at_session.specs.Sessions.{SessionState}
+use Rattle.at_steps.specs.StreamHappenings.{IsForeign, is_adsp}
+use Rattle.at_steps.proofs.Foreign.{AreForeign, IsProtocol, others_events}
+use Rattle.at_steps.proofs.Outcomes.{take_part, type_of}
 
-apart_atp : (k : Kind) → IsOfAtp k → is_adsp k ≡ false
-apart_atp Atp h = refl
-apart_atp Nbp h = absurd h
-apart_atp Adsp h = absurd h
-apart_atp Nobody h = refl
-apart_atp Session h = absurd h
+abbrev part : NodeState → EndTable
+part n = n.streams
 
-apart_nbp : (k : Kind) → IsOfNbp k → is_adsp k ≡ false
-apart_nbp Atp h = absurd h
-apart_nbp Nbp h = refl
-apart_nbp Adsp h = absurd h
-apart_nbp Nobody h = refl
-apart_nbp Session h = absurd h
+typed : (k : Kind) → (type_of k == adsp_kind) ≡ is_adsp k
+typed Adsp = refl
+typed other = refl
 
-apart_nobody : (k : Kind) → IsNobodys k → is_adsp k ≡ false
-apart_nobody Atp h = absurd h
-apart_nobody Nbp h = absurd h
-apart_nobody Adsp h = absurd h
-apart_nobody Nobody h = refl
-apart_nobody Session h = refl
+stays : (k : Kind) → is_adsp k ≡ false → (n now : NodeState) (s : SessionState)
+    → part (record (take_part k n now) { session = s }) ≡ part n
+stays Adsp h n now s = absurd (true≢false h)
+stays other h n now s = refl
 
--- what comes of another protocol is foreign
-foreign : (A : Type 0) (n : NodeState) (act : Act A) (o : Outcome A NodeState) (k : Kind) → is_adsp k ≡ false
-    → Comes A n act o k → IsForeign n act o
-foreign A n act o Atp apart h = subst (IsForeign n act) (sym h.is) (record {
-  same = refl;
-  sends = others_sent atp_kind adsp_kind refl h.part.out h.its.0;
-  reports = apart_atp (reporter_of h.part.report) h.its.1;
-})
-foreign A n act o Nbp apart h = subst (IsForeign n act) (sym h.is) (record {
-  same = refl;
-  sends = others_sent nbp_kind adsp_kind refl h.part.out h.its.0;
-  reports = apart_nbp (reporter_of h.part.report) h.its.1.0;
-})
-foreign A n act o Nobody apart h = subst (IsForeign n act) (sym h.is) (record {
-  same = refl;
-  sends = tt;
-  reports = apart_nobody (reporter_of h.report) h.its;
-})
-foreign A n act o Session apart h = subst (IsForeign n act) (sym h.is) (record {
-  same = refl;
-  sends = tt;
-  reports = apart_nobody (reporter_of h.report) h.its;
-})
-foreign A n act o Adsp apart h = absurd (true≢false apart)
+protocol : IsProtocol is_adsp adsp_kind part
+protocol = record { not_nobodys = refl; typed = typed; stays = stays }
 
-pub call_is_foreign : (A : Type 0) (n : NodeState) (call : Call A) → is_adsp (kind_of_call call) ≡ false
-    → IsForeign n (Calls call) (called n call)
-call_is_foreign A n call apart = foreign A n (Calls call) (called n call) (kind_of_call call) apart
-    (call_comes A n call)
-
-pub timer_is_foreign : (A : Type 0) (n : NodeState) (time : Timer) → is_adsp (kind_of_timer time) ≡ false
-    → IsForeign {A = A} n (Fires time) (timed n time)
-timer_is_foreign A n time apart = foreign A n (Fires time) (timed n time) (kind_of_timer time) apart
-    (timer_comes A n time)
-
-module _ (A : Type 0) (n : NodeState) (which : ℕ) (said : Reply A) (o : Outcome A NodeState) where
-  pub datagram_is_foreign :
-      ((to from : Address) (kind : ℕ) (bytes rest : List ℕ) (d : Datagram)
-      → BeginsWith (canonical to from kind bytes) d rest → d.kind ≡ kind) →
-      (to from : Address) (kind : ℕ) (bytes : List ℕ) → (kind == adsp_kind) ≡ false
-      → Hears said n (canonical to from kind bytes) o → IsForeign n (Gets which) o
-  datagram_is_foreign reads to from kind bytes apart h =
-      let c = datagram_comes A n which said o reads to from kind bytes h in
-      foreign A n (Gets which) o c.whose (c.adsp apart) c.comes
+pub others_are_foreign : (A : Type 0) → AreForeign A is_adsp adsp_kind (λ n act o. IsForeign n act o)
+others_are_foreign A = others_events EndTable is_adsp adsp_kind part protocol A (λ n act o. IsForeign n act o)
+    (λ n act o h. record { same = h.same; sends = h.sends; reports = h.reports })

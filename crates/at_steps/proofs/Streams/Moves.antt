@@ -22,8 +22,6 @@ use Rattle.at_adsp.specs.Streams.{written_after}
 use Rattle.at_event.specs.Outcomes.{Outcome, Outgoing, idle, refused_as}
 use Rattle.at_event.specs.declared.Report.{Report}
 use Rattle.at_event.specs.declared.Report.TheVariants as report
-use Rattle.at_event.specs.declared.transactions.TransactionReport.TheVariants as atp_report
-use Rattle.at_event.specs.declared.names.NameReport.TheVariants as nbp_report
 use Rattle.at_event.specs.declared.streams.StreamReport.TheVariants as adsp_report
 use Rattle.at_event.specs.declared.seat.Seat.{Seat}
 use Rattle.at_node.specs.Numbers.{drawn_by}
@@ -31,13 +29,14 @@ use Rattle.at_node.specs.Nodes.{NodeState, with_streams}
 use Rattle.at_node.specs.declared.numbers.Draw.{Draw}
 use Rattle.at_stream_socket.specs.Calls as sockets
 use Rattle.at_stream_socket.specs.Sockets.{sent_of, streams_at}
-use Rattle.at_steps.specs.Acts.{Act, Calls, Fires, Gets, Forges}
+use Rattle.at_steps.specs.Acts.{Act}
 use Rattle.at_steps.specs.StreamHappenings.{Drawn, IsHappening, IsHere, IsOf, Stands, identifiers, is_streams_socket}
 use Rattle.at_steps.specs.StreamHappenings.{numbers_drawn, stream_coding}
 use Rattle.at_steps.specs.StreamSteps.{Change, HasAnswered, HasAsked, HasOpened, HasRead, HasEnd, HasReset, HasWritten}
 use Rattle.at_steps.specs.StreamSteps.{IsStep, Plain, is_plain, named_by}
 use Rattle.at_steps.proofs.Streams.Below.{AllPaired}
 use Rattle.at_steps.proofs.Streams.Ends.{Finds, find_mapped}
+use Rattle.at_steps.proofs.Streams.Passing.{foreign_draws}
 
 abbrev pub IsIts : (A : Type 0) (setting : Setting) (history : List Happening) (n : NodeState) → Act A
     → Outcome A NodeState → Type 0
@@ -50,9 +49,8 @@ plain_draws : (A : Type 0) (act : Act A) (r : Report A) (event : ℕ) (who : Add
     → numbers_drawn event who (drawn_by r) ≡ []
 plain_draws A act (report.Streams (adsp_report.Opening id)) event who h = absurd (true≢false (sym h))
 plain_draws A act (report.Streams (adsp_report.Made id)) event who h = absurd (true≢false (sym h))
-plain_draws A act (report.Transactions (atp_report.Begun tid)) event who h = refl
-plain_draws A act (report.Names (nbp_report.Looking id)) event who h = refl
-plain_draws A act r event who h = refl
+plain_draws A act (report.Streams r) event who h = refl
+plain_draws A act r event who h = foreign_draws A r event who refl
 
 -- what the ends' users do, and whom the ends open with, leaves their identifiers
 peer_keeps : (at : Address) (id : ℕ) (peer : Option ℕ) (ss : List Stream) → identifiers (with_peer at id peer ss)

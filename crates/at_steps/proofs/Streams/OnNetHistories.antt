@@ -1,6 +1,6 @@
 -- Every history of ends on one AppleTalk network keeps them there.
-use Rattle.std.proofs.Common.{◌≡◌, ℕ, zero, suc, Bool, true, false, cond, List, [], ◌∷◌, replicate}
-use Rattle.std.proofs.Common.{Option, Some, None, Result, Ok, Err, refl}
+use Rattle.std.proofs.Common.{◌≡◌, ℕ, zero, suc, Bool, true, false, cond, List, [], ◌∷◌, replicate, Option, Some, None}
+use Rattle.std.proofs.Common.{Result, Ok, Err, refl}
 use Rattle.std.specs.Prelude.{nat_lt, IfSome, ◌==◌, ◌&&◌}
 use Rattle.std.specs.List.{AllByRecursion}
 use Rattle.std.proofs.lemmas.Bool.{and_parts, eqb-true}
@@ -10,8 +10,7 @@ use Rattle.at_ddp.proofs.Alls.{all_both}
 use Rattle.at_adsp_frame.specs.Segments.{Content}
 use Rattle.at_adsp_end.specs.Ends.{EndState}
 use Rattle.at_adsp_end.specs.declared.fault.StreamFault.{StreamFault}
-use Rattle.at_adsp_ends.specs.Calls.{closed_at, connected, listened, read_at, reset_at, ticked_at}
-use Rattle.at_adsp_ends.specs.Calls.{wrote}
+use Rattle.at_adsp_ends.specs.Calls.{closed_at, connected, listened, read_at, reset_at, ticked_at, wrote}
 use Rattle.at_adsp_ends.specs.Receiving.{received}
 use Rattle.at_adsp_ends.specs.Tables.{Done, EndTable, by_id, next_id}
 use Rattle.at_ddp.specs.Posts.{AllSent, packet_at, put, stamped}

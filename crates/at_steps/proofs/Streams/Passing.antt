@@ -1,33 +1,33 @@
 -- A step of another protocol leaves all streams as they were.
-use Rattle.std.proofs.Common.{◌≡◌, inr, ℕ, false, List, [], ◌++◌, None, refl, sym, ap, ◌∙◌}
+use Rattle.std.proofs.Common.{◌≡◌, inr, ℕ, false, List, [], ◌++◌, Option, Some, None, refl, sym, ap, ◌∙◌}
 use Rattle.std.specs.Prelude.{length, replicate}
 use Rattle.std.proofs.lemmas.Bool.{true≢false}
 use Rattle.at_ddp.specs.declared.address.Address.{Address}
 use Rattle.at_adsp.specs.Connections.{streams}
 use Rattle.at_ddp.proofs.PostLemmas.{put_itself}
+use Rattle.at_steps.proofs.Drawing.{draws_its_own}
 use Rattle.at_steps.proofs.Entries.{entries_foreign}
 use Rattle.at_adsp.specs.Network.{Happening, Other, Setting, after}
 use Rattle.at_event.specs.Kinds.{reporter_of}
 use Rattle.at_event.specs.Outcomes.{Outcome}
 use Rattle.at_event.specs.declared.Report.{Report}
-use Rattle.at_event.specs.declared.Report.TheVariants as report
-use Rattle.at_event.specs.declared.transactions.TransactionReport.TheVariants as atp_report
-use Rattle.at_event.specs.declared.names.NameReport.TheVariants as nbp_report
-use Rattle.at_event.specs.declared.streams.StreamReport.TheVariants as adsp_report
 use Rattle.at_node.specs.Numbers.{drawn_by}
 use Rattle.at_node.specs.Nodes.{NodeState}
+use Rattle.at_node.specs.declared.numbers.Draw.{Draw}
+use Rattle.at_node.specs.declared.numbers.Draw.TheVariants.{Conn}
 use Rattle.at_stream_socket.specs.Sockets.{streams_at}
-use Rattle.at_steps.specs.Acts.{Act, is_adsp}
+use Rattle.at_steps.specs.Acts.{Act}
 use Rattle.at_steps.specs.StreamHappenings.{Drawn, IsForeign, Passes, Stands, identifiers, numbers_drawn, stream_coding}
+use Rattle.at_steps.specs.StreamHappenings.{is_adsp}
 
 -- the report of another protocol draws no identifier
-foreign_draws : (A : Type 0) (r : Report A) (event : ℕ) (who : Address) → is_adsp (reporter_of r) ≡ false
+pub foreign_draws : (A : Type 0) (r : Report A) (event : ℕ) (who : Address) → is_adsp (reporter_of r) ≡ false
     → numbers_drawn event who (drawn_by r) ≡ []
-foreign_draws A (report.Streams (adsp_report.Opening id)) event who h = absurd (true≢false h)
-foreign_draws A (report.Streams (adsp_report.Made id)) event who h = absurd (true≢false h)
-foreign_draws A (report.Transactions (atp_report.Begun tid)) event who h = refl
-foreign_draws A (report.Names (nbp_report.Looking id)) event who h = refl
-foreign_draws A r event who h = refl
+foreign_draws A r event who h = go (drawn_by r) refl
+  where
+    go : (o : Option Draw) → drawn_by r ≡ o → numbers_drawn event who o ≡ []
+    go (Some (Conn id)) is = absurd (true≢false (ap is_adsp (sym (draws_its_own A r (Conn id) is)) ∙ h))
+    go other is = refl
 
 pub foreign_passes : (A : Type 0) (setting : Setting) (history : List Happening) (n : NodeState) (act : Act A)
     → Stands setting history n.seat.net n.seat.number n → (o : Outcome A NodeState) → IsForeign n act o

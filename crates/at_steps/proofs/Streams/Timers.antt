@@ -26,14 +26,12 @@ use Rattle.at_event.specs.declared.Report.TheVariants as report
 use Rattle.at_event.specs.declared.streams.StreamReport.TheVariants as adsp_report
 use Rattle.at_event.specs.declared.Timer.{Timer}
 use Rattle.at_event.specs.declared.Timer.TheVariants as timer
-use Rattle.at_event.specs.declared.transactions.TransactionTimer.TheVariants as atp_timer
-use Rattle.at_event.specs.declared.names.NameTimer.TheVariants as nbp_timer
 use Rattle.at_event.specs.declared.streams.StreamTimer.TheVariants as adsp_timer
 use Rattle.at_node.specs.Nodes.{NodeState, timed, with_streams}
 use Rattle.at_stream_socket.specs.Calls as sockets
 use Rattle.at_stream_socket.specs.Sockets.{told_by}
-use Rattle.at_steps.specs.Acts.{Fires, is_adsp}
-use Rattle.at_steps.specs.StreamHappenings.{IsOf, Stands}
+use Rattle.at_steps.specs.Acts.{Fires}
+use Rattle.at_steps.specs.StreamHappenings.{IsOf, Stands, is_adsp}
 use Rattle.at_steps.specs.StreamSteps.{IsStep, is_plain, named_by}
 use Rattle.at_steps.proofs.Streams.Below.{AllChange, AllPaired}
 use Rattle.at_steps.proofs.Streams.Ends.{finds_it, found_id}
@@ -116,9 +114,6 @@ module _ (A : Type 0) (changes : AllChange) (paired : AllPaired) (setting : Sett
 
   pub timer_happens : (time : Timer) → is_adsp (kind_of_timer time) ≡ true
       → IsIts A setting history n (Fires time) (timed n time)
-  timer_happens (timer.Transactions (atp_timer.Retry tid)) its = absurd (true≢false (sym its))
-  timer_happens (timer.Transactions (atp_timer.Release socket key)) its = absurd (true≢false (sym its))
-  timer_happens (timer.Names (nbp_timer.Lookup id)) its = absurd (true≢false (sym its))
   timer_happens (timer.Streams (adsp_timer.Resend id)) its =
       ticking (timer.Streams (adsp_timer.Resend id)) id tick.Retransmit (λ r. inl refl)
       (resent id (done setting old (Ticks at id tick.Retransmit)) (by_id n.streams id)
@@ -127,3 +122,4 @@ module _ (A : Type 0) (changes : AllChange) (paired : AllPaired) (setting : Sett
       ticking (timer.Streams (adsp_timer.Probe id)) id tick.Probe (λ r. inl refl)
       (asked id (done setting old (Ticks at id tick.Probe)) (by_id n.streams id) refl
       (changes setting history (Ticks at id tick.Probe) st.timely))
+  timer_happens other its = absurd (true≢false (sym its))

@@ -18,8 +18,8 @@ ghost use Rattle.at_node.specs.declared.numbers.Draw.TheVariants.{Lookup};
 ghost use Rattle.at_event.specs.declared.Call.{Call};
 ghost use Rattle.at_event.specs.declared.Timer.{Timer};
 ghost use Rattle.at_event.specs.declared.service.Reply.{Reply};
-ghost use Rattle.at_steps.specs.Acts.{Act, Calls, Fires, Gets, is_nbp};
-ghost use Rattle.at_steps.specs.NameHappenings.{Happens, IsForeign, IsHappening, Stands};
+ghost use Rattle.at_steps.specs.Acts.{Act, Calls, Fires, Gets};
+ghost use Rattle.at_steps.specs.NameHappenings.{Happens, IsForeign, IsHappening, Stands, is_nbp};
 
 use std::alloc::Allocator;
 

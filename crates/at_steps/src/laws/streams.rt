@@ -28,8 +28,8 @@ ghost use Rattle.at_event.specs.declared.streams.StreamReport.TheVariants as ads
 ghost use Rattle.at_event.specs.declared.Timer.{Timer};
 ghost use Rattle.at_event.specs.declared.service.Reply.{Reply};
 ghost use Rattle.at_stream_socket.specs.Sockets.{streams_at};
-ghost use Rattle.at_steps.specs.Acts.{Act, Calls, Fires, Gets, is_adsp};
-ghost use Rattle.at_steps.specs.StreamHappenings.{IsForeign, IsHappening, Passes, Stands};
+ghost use Rattle.at_steps.specs.Acts.{Act, Calls, Fires, Gets};
+ghost use Rattle.at_steps.specs.StreamHappenings.{IsForeign, IsHappening, Passes, Stands, is_adsp};
 
 use std::alloc::Allocator;
 

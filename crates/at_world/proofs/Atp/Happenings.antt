@@ -18,8 +18,7 @@ use Rattle.at_event.specs.declared.Report.{Report}
 use Rattle.at_event.specs.declared.Timer.{Timer}
 use Rattle.at_event.specs.declared.service.Reply.{Reply}
 use Rattle.at_event.specs.declared.service.Reply.TheVariants.{Later}
-use Rattle.at_steps.specs.Acts.{is_atp}
-use Rattle.at_steps.specs.AtpHappenings.{IsForeign, IsHappening, IsOn, Passes, ReadsAtLeastOnce, Stands}
+use Rattle.at_steps.specs.AtpHappenings.{IsForeign, IsHappening, IsOn, Passes, ReadsAtLeastOnce, Stands, is_atp}
 use Rattle.at_steps.specs.AtpSteps.{IsStep}
 use Rattle.at_world.specs.AtpGuards.{AtpMachine, StepBy, next}
 use Rattle.at_world.specs.Cables.{Cable, IsSaid}

@@ -25,7 +25,7 @@ use Rattle.at_world.proofs.Atp.OnWire.{answered_wired, one_key, wired}
 use Rattle.at_world.proofs.Atp.Tie.{Grown}
 use Rattle.at_world.proofs.CableTie.{Wire, spelled_wire}
 use Rattle.at_world.proofs.Entries.{Entries}
-use Rattle.at_world.proofs.Tied.{Tied}
+use Rattle.at_world.proofs.Parts.{Tied}
 
 -- each packet of the network stands at its place
 pub stands_at : (wires : List Wire) (sent : List (Option Sent)) (which : ℕ) (s : Sent) → Entries atp_coding wires sent

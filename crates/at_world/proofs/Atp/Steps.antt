@@ -18,8 +18,7 @@ use Rattle.at_event.specs.declared.Report.{Report}
 use Rattle.at_event.specs.declared.Report.TheVariants as report
 use Rattle.at_event.specs.declared.transactions.TransactionReport.TheVariants as atp_report
 use Rattle.at_event.specs.declared.zones.ZoneReport.TheVariants as zip_report
-use Rattle.at_steps.specs.AtpHappenings.{sets_table}
-use Rattle.at_steps.specs.Acts.{is_atp}
+use Rattle.at_steps.specs.AtpHappenings.{sets_table, is_atp}
 use Rattle.at_steps.specs.AtpSteps as steps
 use Rattle.at_steps.specs.AtpSteps.{Change, IsPlain, BeginsAsking, SetsTable}
 use Rattle.at_steps.specs.AtpSteps.{GivesAnswer, ServesPage, HandsUp, Finishes}

@@ -32,11 +32,11 @@ use Rattle.at_event.specs.declared.zones.ZoneReport.TheVariants as zip_report
 use Rattle.at_event.specs.declared.Timer.{Timer}
 use Rattle.at_event.specs.declared.service.Reply.{Reply}
 use Rattle.at_event.specs.declared.service.Reply.TheVariants.{Later}
-use Rattle.at_steps.specs.Acts.{Act, Calls, Fires, Gets, is_atp}
+use Rattle.at_steps.specs.Acts.{Act, Calls, Fires, Gets}
 use Rattle.at_steps.specs.AtpReports as reports
 use Rattle.at_steps.specs.AtpReports.{AnswersAs}
 use Rattle.at_steps.specs.AtpSteps.{page_answer}
-use Rattle.at_steps.specs.AtpHappenings.{Happens, HoldsNo, IsForeign, IsHappening, IsOn, IsOpen, Passes, Stands}
+use Rattle.at_steps.specs.AtpHappenings.{Happens, HoldsNo, IsForeign, IsHappening, IsOn, IsOpen, Passes, Stands, is_atp}
 use Rattle.at_steps.specs.AtpHappenings.{numbers_drawn, atp_coding}
 use Rattle.at_world.specs.Draws.{noted as noted_in}
 use Rattle.at_world.specs.AtpGuards.{AtpMachine, Reading, StepBy, reading_of, next}

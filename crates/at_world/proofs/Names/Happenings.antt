@@ -16,8 +16,7 @@ use Rattle.at_event.specs.declared.transactions.TransactionReport.TheVariants as
 use Rattle.at_event.specs.declared.names.NameReport.TheVariants as nbp_report
 use Rattle.at_event.specs.declared.Timer.{Timer}
 use Rattle.at_event.specs.declared.service.Reply.{Reply}
-use Rattle.at_steps.specs.Acts.{is_nbp}
-use Rattle.at_steps.specs.NameHappenings.{Happens, IsForeign, IsHappening, Stands}
+use Rattle.at_steps.specs.NameHappenings.{Happens, IsForeign, IsHappening, Stands, is_nbp}
 use Rattle.at_world.specs.Cables.{Cable}
 use Rattle.at_world.specs.Events.{act_of, node_of}
 use Rattle.at_world.specs.NameGuards.{NameMachine, StepBy, next}

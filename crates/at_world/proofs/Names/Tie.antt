@@ -30,8 +30,8 @@ use Rattle.at_event.specs.declared.Call.{Call}
 use Rattle.at_event.specs.declared.Report.{Report}
 use Rattle.at_event.specs.declared.Timer.{Timer}
 use Rattle.at_event.specs.declared.service.Reply.{Reply}
-use Rattle.at_steps.specs.Acts.{Act, Calls, Fires, Gets, is_nbp}
-use Rattle.at_steps.specs.NameHappenings.{Happens, IsForeign, IsHappening, Stands, is_names_socket, name_coding}
+use Rattle.at_steps.specs.Acts.{Act, Calls, Fires, Gets}
+use Rattle.at_steps.specs.NameHappenings.{Happens, IsForeign, IsHappening, Stands, is_names_socket, name_coding, is_nbp}
 use Rattle.at_world.specs.Cables.{Cable}
 use Rattle.at_world.specs.Events.{node_of}
 use Rattle.at_world.specs.NameGuards.{Directory, NameMachine, StepBy, next}

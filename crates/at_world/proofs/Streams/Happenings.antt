@@ -21,8 +21,7 @@ use Rattle.at_node.specs.Numbers.{IsTold, drawn_by, holds}
 use Rattle.at_node.specs.Hearing.{Hears}
 use Rattle.at_node.specs.Nodes.{NodeState, called, timed}
 use Rattle.at_node.specs.declared.numbers.Draw.TheVariants.{Conn}
-use Rattle.at_steps.specs.Acts.{is_adsp}
-use Rattle.at_steps.specs.StreamHappenings.{IsForeign, IsHappening, Passes, Stands}
+use Rattle.at_steps.specs.StreamHappenings.{IsForeign, IsHappening, Passes, Stands, is_adsp}
 use Rattle.at_world.specs.Cables.{Cable}
 use Rattle.at_world.specs.Events.{act_of, node_of}
 use Rattle.at_world.specs.Sents.{SentDatagram}

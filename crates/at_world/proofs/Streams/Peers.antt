@@ -9,7 +9,7 @@ use Rattle.at_world.specs.Machine.{Machine}
 use Rattle.at_world.specs.Worlds.{WorldState}
 use Rattle.at_world.proofs.Streams.Standing.{at_place, stands_there}
 use Rattle.at_world.proofs.Streams.Tie.{StreamLaws}
-use Rattle.at_world.proofs.Tied.{Tied}
+use Rattle.at_world.proofs.Parts.{Tied}
 
 pub names_peers : (A : Type 0) (laws : StreamLaws A) (w : WorldState) (m : Machine) → Tied A w m → NamesPeers m w
 names_peers A laws w m t k n stands id e is opened =

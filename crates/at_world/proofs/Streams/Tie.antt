@@ -36,8 +36,8 @@ use Rattle.at_node.specs.Numbers.{Carries, drawn_by, holds}
 use Rattle.at_node.specs.Hearing.{Hears}
 use Rattle.at_node.specs.Nodes.{NodeState, called, called as node_called, timed}
 use Rattle.at_node.specs.declared.numbers.Draw.TheVariants.{Conn}
-use Rattle.at_steps.specs.Acts.{Act, Calls, Fires, Gets, is_adsp}
-use Rattle.at_steps.specs.StreamHappenings.{IsForeign, IsHappening, IsHere, Passes, Stands, identifiers}
+use Rattle.at_steps.specs.Acts.{Act, Calls, Fires, Gets}
+use Rattle.at_steps.specs.StreamHappenings.{IsForeign, IsHappening, IsHere, Passes, Stands, identifiers, is_adsp}
 use Rattle.at_steps.specs.StreamHappenings.{is_streams_socket, stream_coding}
 use Rattle.at_stream_socket.specs.Sockets.{streams_at}
 use Rattle.at_world.specs.Cables.{Cable}

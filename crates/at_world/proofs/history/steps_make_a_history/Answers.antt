@@ -9,10 +9,10 @@ use Rattle.at_world.proofs.Atp.Serving.{stands_at}
 use Rattle.at_world.proofs.Atp.Tie.{Laws}
 use Rattle.at_world.proofs.LawfulSetups.{SetupLaws}
 use Rattle.at_world.proofs.Names.Tie.{NameLaws}
-use Rattle.at_world.proofs.Runs.{PartLaws, runs}
+use Rattle.at_world.proofs.Parts.{PartLaws, tied_at_opening}
+use Rattle.at_world.proofs.Runs.{runs}
 use Rattle.at_world.proofs.Sessions.Steps.{SessionLaws}
 use Rattle.at_world.proofs.Streams.Tie.{StreamLaws, read_in_order}
-use Rattle.at_world.proofs.TiedAtOpening.{tied_at_opening}
 use Rattle.at_world.proofs.history.steps_make_a_history.Goals as goal
 
 pub returns : goal.returns

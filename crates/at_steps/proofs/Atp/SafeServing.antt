@@ -1,6 +1,6 @@
 -- The sockets of a node that answer: their packets are safe.
-use Rattle.std.proofs.Common.{◌≡◌, inl, inr, ℕ, ◌≤◌, Bool, true, false, cond, List, [], ◌∷◌, length}
-use Rattle.std.proofs.Common.{Option, Some, None, refl, sym, subst, arith}
+use Rattle.std.proofs.Common.{◌≡◌, inl, inr, ℕ, ◌≤◌, Bool, true, false, cond, List, [], ◌∷◌, length, Option, Some, None}
+use Rattle.std.proofs.Common.{refl, sym, subst, arith}
 use Rattle.std.specs.Prelude.{find, is_none, nat_le, option_map, ◌==◌, ◌&&◌}
 use Rattle.std.proofs.lemmas.Bool.Decides.{nat_tests}
 use Rattle.at_ddp.specs.Datagram.{Content as Datagram}
@@ -11,8 +11,7 @@ use Rattle.at_atp_frame.specs.Frames.{Content, Request, Response, Release, Spell
 use Rattle.at_atp_frame.specs.Packets.{Packet}
 use Rattle.at_atp_frame.specs.declared.fault.AtpFault.{AtpFault}
 use Rattle.at_atp_frame.specs.declared.fault.AtpFault.TheVariants as atps
-use Rattle.at_atp_responder.specs.Records.{AsksForEight, Record, Taken}
-use Rattle.at_atp_responder.specs.Records.{asked_for, finds_no_place, is_key}
+use Rattle.at_atp_responder.specs.Records.{AsksForEight, Record, Taken, asked_for, finds_no_place, is_key}
 use Rattle.at_atp_responder.specs.Records.{is_new_and_full, is_passed_over, taken}
 use Rattle.at_atp_responder.specs.declared.reception.Key.{Key}
 use Rattle.at_atp_responder.specs.declared.reception.Reception.{Reception}
@@ -23,20 +22,18 @@ use Rattle.at_event.specs.declared.transactions.TransactionReport.TheVariants as
 use Rattle.at_event.specs.declared.service.Reply.{Reply}
 use Rattle.at_event.specs.declared.service.Reply.TheVariants as reply
 use Rattle.at_transaction_socket.specs.AtpHearing.{AtSocket, AtpSocket, HearsAt, HearsAtp, Requester, Service}
-use Rattle.at_transaction_socket.specs.AtpHearing.{Zones as ZoneSocket}
-use Rattle.at_transaction_socket.specs.AtpHearing.{atp_socket}
+use Rattle.at_transaction_socket.specs.AtpHearing.{Zones as ZoneSocket, atp_socket}
 use Rattle.at_transaction_socket.specs.AtpParts.{AtpState, serving, zones_at}
 use Rattle.at_node.specs.Nodes.{NodeState}
 use Rattle.at_transaction_socket.specs.Responders.{records_at, released_report}
 use Rattle.at_transaction_socket.specs.ServiceSocket.{AtService, at_service, handed_up, sent_by_reply, service_taken}
 use Rattle.at_zip.specs.Tables.{Tables, table_of}
-use Rattle.at_transaction_socket.specs.ZoneSocket.{AtZones, at_zones, page_packet, zone_served}
-use Rattle.at_transaction_socket.specs.ZoneSocket.{zone_taken}
+use Rattle.at_transaction_socket.specs.ZoneSocket.{AtZones, at_zones, page_packet, zone_served, zone_taken}
 use Rattle.at_steps.specs.Safety.{IsSafe, IsTrueOf, Place, Records, number_told}
 use Rattle.at_event.specs.declared.Reason.TheVariants.{OfTransactions}
 use Rattle.at_steps.proofs.Safety.By.{by, faulted, packets_few, quiet, refused}
-use Rattle.at_steps.proofs.Safety.Records.{RecordLaws}
-use Rattle.at_steps.proofs.Safety.Requests.{heard_at_requester}
+use Rattle.at_steps.proofs.Atp.SafeRecords.{RecordLaws}
+use Rattle.at_steps.proofs.Atp.SafeRequests.{heard_at_requester}
 
 -- the mask of a packet that came has eight bits
 asks_for_eight : (bytes : List ℕ) (f : Content) → Spells bytes f → AsksForEight f

@@ -1,30 +1,18 @@
--- The opening world and the opening machine are tied.
-use Rattle.std.proofs.Common.{◌≡◌, ℕ, Bool, true, false, cond, List, [], ◌∷◌, map, Some, refl, sym, subst, arith}
+-- The cable of the opening world is that of the opening machine.
+use Rattle.std.proofs.Common.{◌≡◌, ℕ, Bool, true, false, cond, List, [], ◌∷◌, map, Some, refl, subst, arith}
 use Rattle.std.specs.Prelude.{find, ◌==◌}
 use Rattle.std.specs.List.{list_all}
 use Rattle.std.proofs.lemmas.Bool.{and_parts, eqb-true}
 use Rattle.at_node.specs.Nodes.{NodeState}
 use Rattle.at_setup.specs.declared.setup.NodeSetup.{NodeSetup}
 use Rattle.at_setup.specs.declared.setup.Setup.{Setup}
-use Rattle.at_world.specs.AtpGuards as atp
 use Rattle.at_world.specs.Cables as cables
-use Rattle.at_world.specs.NameGuards as names
-use Rattle.at_world.specs.StreamGuards as streams
-use Rattle.at_world.specs.Machine.{opening_machine}
 use Rattle.at_nodes.specs.Openings.{opening_node}
 use Rattle.at_world.specs.Plays.{opening_world}
 use Rattle.at_setup.specs.Setups.{is_lawful_node, is_lawful}
 use Rattle.at_nodes.specs.Nodes.{is_numbered}
-use Rattle.at_world.proofs.Atp.Opening.{atp_at_opening}
-use Rattle.at_world.proofs.Atp.Tie.{AtpTie}
 use Rattle.at_world.proofs.CableTie.{CableTie, SeatTie}
-use Rattle.at_world.proofs.LawfulSetups.{SetupLaws, lawful_has, node_fits, router_fits}
-use Rattle.at_world.proofs.Names.Opening.{names_at_opening}
-use Rattle.at_world.proofs.Names.Tie.{NameLaws, NameTie}
-use Rattle.at_world.proofs.Sessions.Opening.{sessions_at_opening}
-use Rattle.at_world.proofs.Streams.Opening.{streams_at_opening}
-use Rattle.at_world.proofs.Streams.Tie.{StreamTie}
-use Rattle.at_world.proofs.Tied.{Tied}
+use Rattle.at_world.proofs.LawfulSetups.{lawful_has, node_fits, router_fits}
 
 module _ (A : Type 0) (s : Setup A) where
   seat_opens : (k : ℕ) (x : NodeSetup) → is_lawful_node x ≡ true → (x.node == k) ≡ true
@@ -60,18 +48,4 @@ module _ (A : Type 0) (s : Setup A) where
           seats = λ k n is. seats_open s.nodes has.each k n is;
         },
         refl,
-      )
-
-  pub tied_at_opening : SetupLaws → NameLaws A → is_lawful s ≡ true
-      → (t : Tied A (opening_world s) (opening_machine s)) × ((t.atp).history ≡ [])
-  tied_at_opening setups laws ok =
-      let cable = cable_at_opening ok in
-      let both = subst (λ l. (t : AtpTie A (opening_world s) (cables.opening s) l (atp.opening s)) × (t.history ≡ []))
-      (sym cable.1) (atp_at_opening A s setups ok) in
-      let named = subst (λ l. NameTie (opening_world s) (cables.opening s) l (names.opening s)) (sym cable.1)
-      (names_at_opening A laws s setups ok) in
-      let streamed = subst (λ l. StreamTie (opening_world s) (cables.opening s) l streams.opening) (sym cable.1)
-      (streams_at_opening A s ok) in (
-        record { cable = cable.0; atp = both.0; names = named; streams = streamed; sessions = sessions_at_opening A s },
-        both.1,
       )

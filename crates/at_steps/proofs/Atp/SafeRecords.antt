@@ -1,6 +1,6 @@
 -- The sockets of a node that answer: their calls and their timers are safe.
-use Rattle.std.proofs.Common.{◌≡◌, ℕ, ◌≤◌, Bool, true, false, cond, List, [], ◌∷◌, length}
-use Rattle.std.proofs.Common.{Option, Some, None, refl, subst, arith}
+use Rattle.std.proofs.Common.{◌≡◌, ℕ, ◌≤◌, Bool, true, false, cond, List, [], ◌∷◌, length, Option, Some, None, refl}
+use Rattle.std.proofs.Common.{subst, arith}
 use Rattle.std.specs.Prelude.{find, nat_le, ◌&&◌}
 use Rattle.std.proofs.lemmas.Bool.Decides.{nat_tests}
 use Rattle.at_ddp.specs.declared.address.Address.{Address}
@@ -9,9 +9,9 @@ use Rattle.at_atp_frame.specs.Frames.{Content}
 use Rattle.at_atp_frame.specs.Packets.{Packet}
 use Rattle.at_atp_frame.specs.declared.fault.AtpFault.{AtpFault}
 use Rattle.at_atp_frame.specs.declared.fault.AtpFault.TheVariants as atps
-use Rattle.at_atp_responder.specs.Records.{AsksForEight, Record, State, Waiting, Answered, Released}
-use Rattle.at_atp_responder.specs.Records.{answer_fault, asked_for, expiry_fault, expiry_fault_of, fit, is_key}
-use Rattle.at_atp_responder.specs.Records.{record_fault, state_fault, taken}
+use Rattle.at_atp_responder.specs.Records.{AsksForEight, Record, State, Waiting, Answered, Released, answer_fault}
+use Rattle.at_atp_responder.specs.Records.{asked_for, expiry_fault, expiry_fault_of, fit, is_key, record_fault}
+use Rattle.at_atp_responder.specs.Records.{state_fault, taken}
 use Rattle.at_atp_responder.specs.declared.reception.Key.{Key}
 use Rattle.at_atp_responder.specs.declared.reception.Reception.TheVariants as reception
 use Rattle.at_zip.specs.Zones.{table_fault}

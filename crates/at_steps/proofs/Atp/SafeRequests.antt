@@ -1,6 +1,6 @@
 -- The socket of a node that asks: its calls, its timer and its packets are safe.
-use Rattle.std.proofs.Common.{◌≡◌, inl, inr, ℕ, zero, suc, ◌+◌, ◌<◌, ◌≤◌, Bool, true, false, cond}
-use Rattle.std.proofs.Common.{List, [], ◌∷◌, ◌++◌, length, Option, Some, None, refl, subst, arith}
+use Rattle.std.proofs.Common.{◌≡◌, inl, inr, ℕ, zero, suc, ◌+◌, ◌<◌, ◌≤◌, Bool, true, false, cond, List, [], ◌∷◌, ◌++◌}
+use Rattle.std.proofs.Common.{length, Option, Some, None, refl, subst, arith}
 use Rattle.std.specs.Prelude.{IsSome, MatchBool, find, nat_lt, option_map}
 use Rattle.std.proofs.lemmas.Bool.Decides.{nat_tests}
 use Rattle.at_ddp.specs.declared.address.Address.{Address}
@@ -30,9 +30,9 @@ use Rattle.at_node.specs.Nodes.{NodeState}
 use Rattle.at_transaction_socket.specs.RequesterSocket.{AtRequester, after_retry, asked_as, hears_other, reported_other}
 use Rattle.at_transaction_socket.specs.RequesterSocket.{retry_fired}
 use Rattle.at_transaction_socket.specs.ZoneReading.{AsksOn, ReadsPage, TakesPage, after_failing, is_page, is_reading}
-use Rattle.at_transaction_socket.specs.ZoneReading.{names_read}
+use Rattle.at_transaction_socket.specs.ZoneReading.{names_read, page_transaction, reading_begins, table_read}
+use Rattle.at_transaction_socket.specs.ZoneReading.{zones_called}
 use Rattle.at_zip.specs.declared.request.Which.{Which}
-use Rattle.at_transaction_socket.specs.ZoneReading.{page_transaction, reading_begins, table_read, zones_called}
 use Rattle.at_steps.specs.Safety.{Asking, IsPlaceOfCall, IsSafe, Place, number_told}
 use Rattle.at_event.specs.declared.Reason.TheVariants.{OfNodes, OfTransactions}
 use Rattle.at_steps.proofs.Safety.By.{by, packets_few, page_faulted, quiet, refused}

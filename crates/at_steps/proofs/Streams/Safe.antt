@@ -1,6 +1,6 @@
 -- The socket of a node for streams: its calls, its timers and its packets are safe.
-use Rattle.std.proofs.Common.{◌≡◌, ◌⊎◌, inl, inr, ℕ, ◌≤◌, Bool, true, false, cond, List, length, take}
-use Rattle.std.proofs.Common.{Option, Some, None, Result, Ok, Err, refl, subst, arith}
+use Rattle.std.proofs.Common.{◌≡◌, ◌⊎◌, inl, inr, ℕ, ◌≤◌, Bool, true, false, cond, List, length, take, Option, Some}
+use Rattle.std.proofs.Common.{None, Result, Ok, Err, refl, subst, arith}
 use Rattle.std.specs.Prelude.{IfOk, MatchBool, ◌==◌}
 use Rattle.std.specs.List.{AllByRecursion}
 use Rattle.std.proofs.lemmas.List.{length-map}
