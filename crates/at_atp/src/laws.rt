@@ -20,8 +20,8 @@ pub use at_atp_requester::laws::{
     below_32_a_number_is_free, numbers_stay_open, open_numbers_differ,
 };
 pub use at_atp_responder::laws::{
-    a_new_request_waits, a_request_is_handed_up_once, at_most_64_records_stand,
-    no_more_is_sent_than_answered, no_two_records_are_of_one_request,
+    a_new_request_waits, a_request_is_handed_up_once, an_answer_at_once_leaves_no_record,
+    at_most_64_records_stand, no_more_is_sent_than_answered, no_two_records_are_of_one_request,
     only_a_waiting_request_is_answered, what_is_sent_is_of_the_answer,
 };
 use std::alloc::Allocator;

@@ -9,4 +9,4 @@ pub use at_atp_frame::{
     ranges_of_bytes, send,
 };
 pub use at_atp_requester::{Requester, Retry, Step};
-pub use at_atp_responder::{Key, Reception, Responder};
+pub use at_atp_responder::{Key, NewRequest, Reception, Responder};

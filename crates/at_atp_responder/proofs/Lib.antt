@@ -1,4 +1,5 @@
 mod AnsweringLemmas
+mod AtOnceLemmas
 mod CountLemmas
 mod EightLemmas
 mod KeyLemmas

@@ -1,3 +1,4 @@
+pub mod AtOnce
 pub mod Keys
 pub mod Once
 pub mod Records

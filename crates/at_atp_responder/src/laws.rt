@@ -6,9 +6,11 @@ ghost use Rattle.at_atp_frame.specs.Frames.{Content, number_of};
 ghost use Rattle.at_atp_responder.specs.Keys.{AreApart};
 ghost use Rattle.at_atp_responder.specs.Once.{Event, Expires, Undoes, stands, hand_ups, removes, removals, is_once};
 ghost use Rattle.at_atp_responder.specs.Records.{AsksForEight, Record, is_key, taken};
-ghost use Rattle.at_atp_responder.specs.Records.{record_fault, answer_fault, asked_for};
+ghost use Rattle.at_atp_responder.specs.AtOnce.{with_request};
+ghost use Rattle.at_atp_responder.specs.Records.{record_fault, after_answer, answer_fault, asked_for, responses};
 ghost use Rattle.at_atp_responder.specs.Replies.{AllOfAnswer};
 ghost use Rattle.at_atp_responder.specs.declared.reception.Key.{Key};
+ghost use Rattle.at_atp_responder.specs.declared.reception.NewRequest.{NewRequest};
 ghost use Rattle.at_atp_responder.specs.declared.reception.Reception.TheVariants.{New};
 ghost use Rattle.at_atp_frame.specs.Packets.{Packet};
 
@@ -53,6 +55,17 @@ pub fn at_most_eight_packets_are_sent()
     ensures replied { (rs : List Record) (from : Address) (f : Content) (key : Key) (packets : List Packet)
         → AsksForEight f → (taken rs from f).reception ≡ New key
         → length (asked_for (find (is_key key) (taken rs from f).after) key packets) ≤ 8 }
+{}
+
+/// A request that is answered at once is sent what it would have been sent if it had waited, and leaves the records as it
+/// would have left them then.
+pub fn an_answer_at_once_leaves_no_record()
+    ensures asked { (rs : List Record) (request : NewRequest) (packets : List Packet)
+        → find (is_key request.key) rs ≡ None
+        → asked_for (find (is_key request.key) (with_request rs request)) request.key packets
+        ≡ responses request.key 0 request.bitmap packets }
+    ensures gone { (rs : List Record) (request : NewRequest) (packets : List Packet)
+        → find (is_key request.key) rs ≡ None → after_answer (with_request rs request) request.key packets ≡ rs }
 {}
 
 /// Only a request that waits is answered.

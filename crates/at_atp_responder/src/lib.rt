@@ -3,6 +3,7 @@
 
 mod answer_room;
 mod answering;
+mod at_once;
 pub mod laws;
 mod reception;
 mod record;
@@ -10,5 +11,5 @@ mod records;
 mod responder;
 mod settling;
 
-pub use reception::{Key, Reception};
+pub use reception::{Key, NewRequest, Reception};
 pub use responder::Responder;

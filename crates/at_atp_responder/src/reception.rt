@@ -35,6 +35,14 @@ fn packed(key: Key) -> u64
     from * 65536 + u64::from(key.tid)
 }
 
+/// A request that is new and at-least-once, and finds a place.
+#[derive(Clone, Copy, Debug, PartialEq, Eq)]
+pub struct NewRequest {
+    pub key: Key,
+    /// Which packets of the answer it asks for.
+    pub bitmap: u8,
+}
+
 /// What came of a packet at a responder.
 #[derive(Clone, Copy, Debug, PartialEq, Eq)]
 pub enum Reception {

@@ -20,7 +20,7 @@ use std::alloc::{AllocError, Allocator};
 use std::marker::Model;
 
 /// How many records a responder has at most.
-const RECORDS: usize = 64;
+pub(crate) const RECORDS: usize = 64;
 
 /// The records in the order in which their requests came, each found by its key.
 #[derive(Drop)]

@@ -1,7 +1,7 @@
 //! The records of the side that answers.
-use at_atp_frame::Frame;
-use at_atp_responder::{Key, Reception, Responder};
-use at_ddp::{Address, Datagrams, Outbox};
+use at_atp_frame::{Frame, Packet};
+use at_atp_responder::{Key, NewRequest, Reception, Responder};
+use at_ddp::{Address, Bytes, Datagrams, Outbox};
 use std::alloc::Global;
 use std::process::Abort;
 
@@ -44,4 +44,32 @@ fn a_request_has_a_record_under_its_key_alone(rt: HostRuntime) {
     receive(&rt, rt.alloc(), &mut answerer);
     assert!(rt; answerer.holds(KEY));
     assert!(rt; !answerer.holds(Key { tid: 8, ..KEY }));
+}
+
+#[test]
+fn a_new_request_is_answered_without_a_record(rt: HostRuntime) {
+    let answerer = Responder::new(rt.alloc());
+    let request = answerer.new_request(ASKER, &REQUEST);
+    let request = request.expect(&rt, "no request");
+    assert!(rt;
+        request
+            == NewRequest {
+                key: KEY,
+                bitmap: 1
+            }
+    );
+    let bytes = Bytes::copy_of(rt.alloc(), b"Lab").expect(&rt, "out of memory");
+    let packets = [Packet::new([1, 0, 0, 1], bytes)];
+    let mut out = Outbox::over(Datagrams::new(rt.alloc()), SERVER, 3);
+    let sent = Responder::answer_at_once(request, &packets, &mut out);
+    assert!(rt; sent == Ok(1));
+    assert!(rt; out.into_list().len() == 1);
+    assert!(rt; !answerer.holds(KEY));
+}
+
+#[test]
+fn a_request_that_has_a_record_is_not_new(rt: HostRuntime) {
+    let mut answerer = Responder::new(rt.alloc());
+    receive(&rt, rt.alloc(), &mut answerer);
+    assert!(rt; answerer.new_request(ASKER, &REQUEST).is_none());
 }

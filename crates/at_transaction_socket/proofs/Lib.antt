@@ -1,4 +1,5 @@
 mod AnsweringLemmas
+mod AtOnceLemmas
 mod BeginLemmas
 mod FaultLemmas
 mod ListLemmas

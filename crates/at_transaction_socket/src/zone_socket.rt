@@ -1,9 +1,9 @@
 //! The zone socket, which only a router serves: it answers requests with pages of its tables.
 ghost use Rattle.std.specs.Prelude.{◌≡◌, ◌≤◌, ◌++◌, ◌∷◌, List, [], map, length, find, option_map, None, Some, false};
-ghost use Rattle.std.specs.Prelude.{IfOk, OnOk, OnErr};
+ghost use Rattle.std.specs.Prelude.{IfOk, OnOk, OnErr, true};
 ghost use Rattle.at_ddp.specs.Datagrams.{Posted};
 ghost use Rattle.at_atp_frame.specs.Frames.{content, spelled_all};
-ghost use Rattle.at_atp_responder.specs.Records.{record_fault, is_key, after_answer, asked_for};
+ghost use Rattle.at_atp_responder.specs.Records.{record_fault, is_key, after_answer, asked_for, fit, responses};
 ghost use Rattle.at_ddp.specs.Tables.{without_first};
 ghost use Rattle.at_ddp.specs.Protocols.{atp_kind};
 ghost use Rattle.at_transaction_socket.specs.AtpHearing.{AtSocket, HearsAt, Zones as ZoneSocket};
@@ -18,8 +18,9 @@ use crate::atp_part::AtpPart;
 use crate::incoming::Incoming;
 use crate::refusals::refused;
 use crate::responders::{answer, hear, release};
-use at_atp::{AtpFault, Frame, Key, Packet, Reception, Responder};
-use at_ddp::{Address, Datagrams, Pascal};
+use at_atp::laws::an_answer_at_once_leaves_no_record;
+use at_atp::{AtpFault, Frame, Key, NewRequest, Packet, Reception, Responder};
+use at_ddp::{ATP, Address, Datagrams, Outbox, Pascal};
 use at_event::{NodeFault, Report, Seat, TransactionReport, ZoneReport};
 use at_packet::AtpPacket;
 use at_zip::{Which, Zones, page, read_request};
@@ -114,6 +115,57 @@ fn serve_request<A: Allocator + Copy>(
         (record a { zone_responder = records.new }) out.new.items }
     ensures not_asked { is_asked result ≡ false }
 {
+    an_answer_at_once_leaves_no_record();
+    match records.new_request(packet.from, &packet.frame) {
+        None => serve_filed(room, records, own, packet, zones, start, out),
+        Some(request) => match serve_at_once(room, own, request, zones, start, out) {
+            Ok(count) => Report::Zones(ZoneReport::Served(count)),
+            Err(AllocError) => Report::NoMemory,
+        },
+    }
+}
+
+// Answers a new at-least-once request as it comes, without a record.
+fn serve_at_once<A: Allocator + Copy>(
+    room: &mut Vec<Packet<A>, A>,
+    own: Address,
+    request: NewRequest,
+    zones: &Zones<A>,
+    start: u16,
+    out: &mut Datagrams<A>,
+) -> Result<u8, AllocError>
+    requires { 1 ≤ start }
+    ensures count { IfOk result (λ count. count
+        ≡ length (responses request.key 0 request.bitmap (page_packet zones.now start ∷ []))) }
+    ensures sent { OnOk result
+        (out.new.items ≡ out.old.items ++ map posted
+        (sent_by own atp_kind (spelled_all (responses request.key 0 request.bitmap (page_packet zones.now start ∷ []))))) }
+    ensures nothing_sent { OnErr result (out.new.items ≡ out.old.items) }
+{
+    let alloc = *room.allocator();
+    make_answer(room, zones, start)?;
+    let mut outbox = Outbox::lent(alloc, out, own, ATP);
+    let answered = Responder::answer_at_once(request, room, &mut outbox);
+    *out = outbox.into_list();
+    answered
+}
+
+// Takes a request for the page from a place on, which has a record or gets one.
+fn serve_filed<A: Allocator + Copy>(
+    room: &mut Vec<Packet<A>, A>,
+    records: &mut Responder<A>,
+    own: Address,
+    packet: &Incoming<'_>,
+    zones: &Zones<A>,
+    start: u16,
+    out: &mut Datagrams<A>,
+) -> Report<A>
+    requires { 1 ≤ start }
+    ensures step { (s : Place) (a : AtpState) → a.zone_responder ≡ records.old → zones_at s.net s.number ≡ own →
+        IsStep (zone_asked s a packet.now.from (content packet.now.frame) zones.now start) a out.old.items result
+        (record a { zone_responder = records.new }) out.new.items }
+    ensures not_asked { is_asked result ≡ false }
+{
     match hear(*room.allocator(), records, own, packet, out) {
         Err(fault) => refused(fault.number()),
         Ok(Reception::Ignored) => Report::Ignored,
@@ -135,7 +187,8 @@ fn make_answer<A: Allocator + Copy>(
     start: u16,
 ) -> Result<(), AllocError>
     requires { 1 ≤ start }
-    ensures { OnOk result (room.new.items ≡ page_packet zones.now start ∷ []) }
+    ensures answer { OnOk result (room.new.items ≡ page_packet zones.now start ∷ []) }
+    ensures fits { OnOk result (fit room.new.items ≡ true) }
 {
     room.clear();
     room.reserve(1)?;
