@@ -7,6 +7,7 @@ mod ListedTimers
 mod MemberLemmas
 mod NameLemmas
 mod OnceLists
+mod Opened
 mod ReleaseLaws
 mod SentHeard
 mod SessionLemmas

@@ -6,25 +6,13 @@ use Rattle.at_event.specs.declared.Call.{Call}
 use Rattle.at_event.specs.declared.Call.TheVariants.{Names}
 use Rattle.at_event.specs.declared.names.NameCall.TheVariants.{Register, Unregister}
 use Rattle.at_event.proofs.OutcomeLemmas.{step_over}
+use Rattle.at_node.proofs.Opened.{opened}
 use Rattle.at_node.proofs.node.Node.call_names.Goals as goal
 
 pub returns-in-Register : goal.returns-in-Register
 returns-in-Register g c =
-    let inside : NodeState =
-    record {
-      seat = c.self-in-Register.inside.seat;
-      atp = c.self-in-Register.inside.atp;
-      names = c.self-in-Register.inside.names;
-      streams = c.self-in-Register.inside.streams;
-      session = c.self-in-Register.inside.session;
-    } in
-    let new : NodeState = record {
-      seat = c.self-in-Register.inside.seat;
-      atp = c.self-in-Register.inside.atp;
-      names = c.register.new.self;
-      streams = c.self-in-Register.inside.streams;
-      session = c.self-in-Register.inside.session;
-    } in
+    let inside : NodeState = opened c.self-in-Register.view_is in
+    let new : NodeState = record inside { names = c.register.new.self } in
     let items = c.args.out.now.items in
     let i = c.in-Register in
     let call : Call g.row.A.Denot = Names (Register i.object i.kind i.socket) in
@@ -35,21 +23,8 @@ returns-in-Register g c =
 
 pub returns-in-Unregister : goal.returns-in-Unregister
 returns-in-Unregister g c =
-    let inside : NodeState =
-    record {
-      seat = c.self-in-Unregister.inside.seat;
-      atp = c.self-in-Unregister.inside.atp;
-      names = c.self-in-Unregister.inside.names;
-      streams = c.self-in-Unregister.inside.streams;
-      session = c.self-in-Unregister.inside.session;
-    } in
-    let new : NodeState = record {
-      seat = c.self-in-Unregister.inside.seat;
-      atp = c.self-in-Unregister.inside.atp;
-      names = c.unregister.new.self;
-      streams = c.self-in-Unregister.inside.streams;
-      session = c.self-in-Unregister.inside.session;
-    } in
+    let inside : NodeState = opened c.self-in-Unregister.view_is in
+    let new : NodeState = record inside { names = c.unregister.new.self } in
     let items = c.args.out.now.items in
     let i = c.in-Unregister in
     let call : Call g.row.A.Denot = Names (Unregister i.object i.kind) in

@@ -6,25 +6,13 @@ use Rattle.at_event.specs.declared.streams.StreamCall.TheVariants.{Listen}
 use Rattle.at_node.specs.Nodes.{NodeState, called, with_streams}
 use Rattle.at_stream_socket.specs.Calls.{listen_called}
 use Rattle.at_event.proofs.OutcomeLemmas.{step_over}
+use Rattle.at_node.proofs.Opened.{opened}
 use Rattle.at_node.proofs.node.Node.call_streams.Goals as goal
 
 pub returns-in-Listen : goal.returns-in-Listen
 returns-in-Listen g c =
-    let inside : NodeState =
-    record {
-      seat = c.self.inside.seat;
-      atp = c.self.inside.atp;
-      names = c.self.inside.names;
-      streams = c.self.inside.streams;
-      session = c.self.inside.session;
-    } in
-    let new : NodeState = record {
-      seat = c.self.inside.seat;
-      atp = c.self.inside.atp;
-      names = c.self.inside.names;
-      streams = c.listen.new.self;
-      session = c.self.inside.session;
-    } in
+    let inside : NodeState = opened c.self.view_is in
+    let new : NodeState = record inside { streams = c.listen.new.self } in
     let items = c.args.out.now.items in
     let call : Call g.row.A.Denot = Streams (Listen c.in-Listen.on) in
     rw c.in-Listen.is

@@ -6,26 +6,14 @@ use Rattle.at_event.specs.declared.Call.{Call}
 use Rattle.at_event.specs.declared.Call.TheVariants.{Zones}
 use Rattle.at_event.specs.declared.zones.ZoneCall.TheVariants.{Set}
 use Rattle.at_event.proofs.OutcomeLemmas.{step_over}
+use Rattle.at_node.proofs.Opened.{opened}
 use Rattle.at_node.proofs.node.Node.call_zones.Goals as goal
 
 pub returns-in-Set : goal.returns-in-Set
 returns-in-Set g c =
     let self = c.self in
-    let inside : NodeState =
-    record {
-      seat = self.inside.seat;
-      atp = self.inside.atp;
-      names = self.inside.names;
-      streams = self.inside.streams;
-      session = c.self.inside.session;
-    } in
-    let new : NodeState = record {
-      seat = self.inside.seat;
-      atp = c.set_zones.new.self;
-      names = self.inside.names;
-      streams = self.inside.streams;
-      session = c.self.inside.session;
-    } in
+    let inside : NodeState = opened c.self.view_is in
+    let new : NodeState = record inside { atp = c.set_zones.new.self } in
     let items = c.args.out.now.items in
     let call : Call g.row.A.Denot = Zones (Set c.in-Set.which c.in-Set.names) in
     rw c.in-Set.is

@@ -3,6 +3,7 @@ use Rattle.at_event.specs.Outcomes.{IsStep}
 use Rattle.at_node.specs.NameCalls.{finish_called}
 use Rattle.at_node.specs.Nodes.{NodeState, over_finish}
 use Rattle.at_node.proofs.SessionLemmas.{finds_are_told, finish_over}
+use Rattle.at_node.proofs.Opened.{opened}
 use Rattle.at_node.proofs.node.Node.finish.Goals as goal
 
 pub keep_finds-requires : goal.keep_finds-requires
@@ -12,21 +13,8 @@ keep_finds-requires g c = λ found tells.
 
 pub returns : goal.returns
 returns g c = λ sent.
-    let inside : NodeState =
-    record {
-      seat = c.self.inside.seat;
-      atp = c.self.inside.atp;
-      names = c.self.inside.names;
-      streams = c.self.inside.streams;
-      session = c.self.inside.session;
-    } in
-    let new : NodeState = record {
-      seat = c.self.inside.seat;
-      atp = c.self.inside.atp;
-      names = c.finish-report.new.self;
-      streams = c.self.inside.streams;
-      session = c.keep_finds.new.self;
-    } in
+    let inside : NodeState = opened c.self.view_is in
+    let new : NodeState = record inside { names = c.finish-report.new.self; session = c.keep_finds.new.self } in
     subst (λ (n : NodeState). IsStep (over_finish n (finish_called {A = g.row.A.Denot} n.names c.args.id)) n sent
     c.finish-report.result new sent) c.self.view_is
     (finish_over g.row.A.Denot inside c.args.id sent c.finish-report.result c.finish-report.new.self

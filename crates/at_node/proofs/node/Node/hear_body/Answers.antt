@@ -14,6 +14,7 @@ use Rattle.at_node.specs.Nodes.{NodeState, over_atp, with_names, with_streams}
 use Rattle.at_node.proofs.BodyLemmas.{adsp_of, atp_of, for_seat, is_for, nbp_of, other_kind, other_of}
 use Rattle.at_event.proofs.OutcomeLemmas.{comes_ignored, comes_over, comes_wider}
 use Rattle.at_event.proofs.ServedLemmas.{not_served}
+use Rattle.at_node.proofs.Opened.{opened}
 use Rattle.at_node.proofs.node.Node.hear_body.Goals as goal
 
 pub returns-then-not-is_for : goal.returns-then-not-is_for
@@ -65,21 +66,8 @@ returns-in-Atp g c =
 pub returns-in-Nbp : goal.returns-in-Nbp
 returns-in-Nbp g c =
     let h = c.hear in
-    let inside : NodeState =
-    record {
-      seat = c.self.inside.seat;
-      atp = c.self.inside.atp;
-      names = c.self.inside.names;
-      streams = c.self.inside.streams;
-      session = c.self.inside.session;
-    } in
-    let new : NodeState = record {
-      seat = c.self.inside.seat;
-      atp = c.self.inside.atp;
-      names = h.new.self;
-      streams = c.self.inside.streams;
-      session = c.self.inside.session;
-    } in
+    let inside : NodeState = opened c.self.view_is in
+    let new : NodeState = record inside { names = h.new.self } in
     let d : Content = c.in-Nbp.packet in
     let is = nbp_of c.args.body.now d c.in-Nbp.is c.requires in
     let before = c.args.out.now.items in
@@ -104,21 +92,8 @@ returns-in-Nbp g c =
 pub returns-in-Adsp : goal.returns-in-Adsp
 returns-in-Adsp g c =
     let h = c.hear-in-Adsp in
-    let inside : NodeState =
-    record {
-      seat = c.self.inside.seat;
-      atp = c.self.inside.atp;
-      names = c.self.inside.names;
-      streams = c.self.inside.streams;
-      session = c.self.inside.session;
-    } in
-    let new : NodeState = record {
-      seat = c.self.inside.seat;
-      atp = c.self.inside.atp;
-      names = c.self.inside.names;
-      streams = h.new.self;
-      session = c.self.inside.session;
-    } in
+    let inside : NodeState = opened c.self.view_is in
+    let new : NodeState = record inside { streams = h.new.self } in
     let d : Content = c.in-Adsp.packet in
     let is = adsp_of c.args.body.now d c.in-Adsp.is c.requires in
     let before = c.args.out.now.items in
