@@ -10,6 +10,7 @@ ghost use Rattle.at_atp_requester.specs.Requests.{retried, IsHeard};
 ghost use Rattle.at_atp_requester.specs.Requests.{IsRequester, IsRetried};
 
 use crate::numbers::next_of;
+use crate::part::Part;
 use crate::standing::{Standing, index_numbered, index_of, settle};
 use crate::step::{Retry, Step};
 use crate::transaction::{Arriving, Question, Transaction};
@@ -18,6 +19,7 @@ use at_ddp::{Address, Outbox};
 use at_table::Table;
 use std::alloc::{AllocError, Allocator, Global};
 use std::marker::Model;
+use std::mem;
 
 /// The requester of a socket: its open transactions, at most 32.
 #[derive(Drop)]
@@ -25,6 +27,8 @@ pub struct Requester<A: Allocator = Global> {
     pub(crate) alloc: A,
     pub(crate) next: u16,
     pub(crate) standing: Standing<A>,
+    // Room for the packets of an answer, kept from the transaction that closed last to the next one.
+    pub(crate) room: Vec<Option<Part<A>>, A>,
 }
 
 impl<A: Allocator> Model for Requester<A> {
@@ -48,6 +52,7 @@ impl<A: Allocator + Copy> Requester<A> {
             alloc,
             next: 0,
             standing: Table::new(alloc),
+            room: Vec::new(alloc),
         }
     }
 
@@ -127,7 +132,8 @@ impl<A: Allocator + Copy> Requester<A> {
             xo,
             retries,
         };
-        let transaction = Transaction::begin(self.alloc, tid, &question)?;
+        let room = mem::replace(&mut self.room, Vec::new(self.alloc));
+        let transaction = Transaction::begin(self.alloc, room, tid, &question)?;
         self.standing.reserve()?;
         send(out, to, &transaction.request())?;
         self.standing.push(tid, transaction);

@@ -67,8 +67,10 @@ pub(crate) struct Question<'a> {
 }
 
 impl<A: Allocator + Copy> Transaction<A> {
+    // The transaction that begins under this number. What came before into the room is dropped.
     pub(crate) fn begin(
         alloc: A,
+        room: Vec<Option<Part<A>>, A>,
         tid: u16,
         question: &Question<'_>,
     ) -> Result<Transaction<A>, AllocError>
@@ -84,12 +86,17 @@ impl<A: Allocator + Copy> Transaction<A> {
             data_: Bytes::copy_of(alloc, question.bytes)?,
             xo: question.xo,
             retries: question.retries,
-            parts: no_parts(alloc, question.wanted)?,
+            parts: no_parts(room, question.wanted)?,
         })
     }
 }
 
 impl<A: Allocator> Transaction<A> {
+    // The room of the packets that came, for a transaction that begins later.
+    pub(crate) fn into_room(self) -> Vec<Option<Part<A>>, A> {
+        self.parts
+    }
+
     pub(crate) fn tid(&self) -> u16
         ensures { result ≡ self.now.tid }
     {
@@ -290,10 +297,15 @@ impl<A: Allocator + Copy> Transaction<A> {
     }
 }
 
-fn no_parts<A: Allocator>(alloc: A, wanted: u8) -> Result<Vec<Option<Part<A>>, A>, AllocError>
+fn no_parts<A: Allocator>(
+    room: Vec<Option<Part<A>>, A>,
+    wanted: u8,
+) -> Result<Vec<Option<Part<A>>, A>, AllocError>
     ensures { IfOk result (λ v. v.items ≡ replicate wanted None) }
 {
-    let mut parts = Vec::with_capacity(alloc, wanted as usize)?;
+    let mut parts = room;
+    parts.clear();
+    parts.reserve(wanted as usize)?;
     for _i in 0..wanted {
         parts.push(None)?;
     }

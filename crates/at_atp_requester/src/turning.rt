@@ -45,7 +45,7 @@ impl<A: Allocator + Copy> Requester<A> {
     {
         let (tid, _arriving) = answer_in(frame).unwrap();
         let index = index_of(&self.standing, tid, from).unwrap();
-        drop(self.standing.remove(index));
+        self.room = self.standing.remove(index).into_room();
     }
 
     /// Takes a packet that ends an at-least-once transaction, keeps nothing of the answer, and begins the next
@@ -102,7 +102,7 @@ impl<A: Allocator + Copy> Requester<A> {
             xo: false,
             retries,
         };
-        Transaction::begin(self.alloc, tid, &question)
+        Transaction::begin(self.alloc, Vec::new(self.alloc), tid, &question)
     }
 }
 

@@ -86,7 +86,8 @@ impl<A: Allocator + Copy> Node<A> {
     {
         let mut list = None;
         let report = self.atp.hear(self.seat, service, packet, &mut list, out);
-        self.session.keep_list(&report, list);
+        let old = self.session.keep_list(&report, list);
+        self.atp.keep_room(old);
         report
     }
 }

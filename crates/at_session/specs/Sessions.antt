@@ -6,7 +6,7 @@ use Rattle.at_ddp.specs.declared.address.Address.{Address}
 use Rattle.at_nbp.specs.Names.{same_text}
 use Rattle.at_nbp.specs.declared.find.Find.{Find}
 use Rattle.at_nbp.specs.declared.name.Name.{Name}
-use Rattle.at_zip.specs.Tables.{Tables, with_table}
+use Rattle.at_zip.specs.Tables.{Tables, table_of, with_table}
 use Rattle.at_event.specs.declared.Report.{Report}
 use Rattle.at_event.specs.declared.Report.TheVariants as report
 use Rattle.at_event.specs.declared.zones.ZoneReport.TheVariants as zip_report
@@ -56,6 +56,11 @@ address_at s index = option_map (λ f. f.address) (slice_get s.finds index)
 abbrev pub list_kept : {A : Type 0} → SessionState → Report A → SessionState
 list_kept s (report.Zones (zip_report.List which names)) = record s { lists = with_table which names s.lists }
 list_kept s other = s
+
+-- the list before it
+abbrev pub list_replaced : {A : Type 0} → SessionState → Report A → Option (List (List ℕ))
+list_replaced s (report.Zones (zip_report.List which names)) = Some (table_of which s.lists)
+list_replaced s other = None
 
 -- a lookup that ends leaves what it found; a claim leaves what was found before it
 abbrev pub finds_kept : {A : Type 0} → SessionState → Report A → SessionState

@@ -2,7 +2,7 @@
 ghost use Rattle.std.specs.Prelude.{◌≡◌, List, ℕ, Some, IfErr, OnOk, OnErr, true, false};
 ghost use Rattle.at_nbp.specs.declared.find.Find.{Find as Found};
 ghost use Rattle.at_nbp.specs.Names.{same_text as is_same_text};
-ghost use Rattle.at_session.specs.Sessions.{address_at, finds_kept, is_listed, list_kept, new_session};
+ghost use Rattle.at_session.specs.Sessions.{address_at, finds_kept, is_listed, list_kept, list_replaced, new_session};
 ghost use Rattle.at_session.specs.Sessions.{pattern_asked, picking, zone_asked};
 ghost use Rattle.std.specs.List.{list_any};
 ghost use Rattle.at_zip.specs.declared.request.Which.{Which};
@@ -13,6 +13,7 @@ use at_nbp::{Find, Name, copy_of};
 use at_zip::Which;
 use std::alloc::{Allocator, Global};
 use std::marker::Model;
+use std::mem;
 
 /// What a node keeps of its reports: the zone list of each kind that was read last, the zone that was picked last, and
 /// what the last lookup found.
@@ -95,17 +96,24 @@ impl<A: Allocator + Copy> Session<A> {
         Some(find.address)
     }
 
-    /// Keeps the zone list of a report; `list` is that list, if the report has one. This needs no memory.
-    pub fn keep_list(&mut self, report: &Report<A>, list: Option<Listed<Pascal, A>>)
+    /// Keeps the zone list of a report; `list` is that list, if the report has one. Gives back the list whose place it
+    /// takes. This needs no memory.
+    pub fn keep_list(
+        &mut self,
+        report: &Report<A>,
+        list: Option<Listed<Pascal, A>>,
+    ) -> Option<Listed<Pascal, A>>
         requires { (which : Which) (names : List (List ℕ)) → report.now ≡ Report.Zones (ZoneReport.List which names)
             → list ≡ Some names }
-        ensures { self.new ≡ list_kept self.old report.now }
+        ensures keeps { self.new ≡ list_kept self.old report.now }
+        ensures gives { result ≡ list_replaced self.old report.now }
     {
-        if let (Report::Zones(ZoneReport::List { which, .. }), Some(list)) = (report, list) {
-            match which {
-                Which::All => self.all = list,
-                Which::Local => self.local = list,
-            }
+        let (Report::Zones(ZoneReport::List { which, .. }), Some(list)) = (report, list) else {
+            return None;
+        };
+        match which {
+            Which::All => Some(mem::replace(&mut self.all, list)),
+            Which::Local => Some(mem::replace(&mut self.local, list)),
         }
     }
 

@@ -34,6 +34,8 @@ pub struct AtpPart<A: Allocator = Global> {
     pub(crate) service_responder: Responder<A>,
     // Room for the packet that has a page, kept from one answer to the next.
     pub(crate) page: Vec<Packet<A>, A>,
+    // Room for the names of a list, kept from a list that is no longer wanted.
+    pub(crate) names: Listed<Pascal, A>,
 }
 
 impl<A: Allocator> Model for AtpPart<A> {
@@ -65,6 +67,16 @@ impl<A: Allocator + Copy> AtpPart<A> {
             zone_responder: Responder::new(alloc),
             service_responder: Responder::new(alloc),
             page: Vec::new(alloc),
+            names: Listed::from_vec(Vec::new(alloc)),
+        }
+    }
+
+    /// Keeps the room of a list that is no longer wanted, if there is one, for the list that the next reading ends with.
+    pub fn keep_room(&mut self, list: Option<Listed<Pascal, A>>)
+        ensures { self.new ≡ self.old }
+    {
+        if let Some(list) = list {
+            self.names = list;
         }
     }
 

@@ -28,6 +28,7 @@ use at_ddp::{ATP, Address, Datagrams, Listed, Outbox, Pascal};
 use at_event::{Report, TransactionReport, ZoneReport};
 use at_zip::{PageView, ZipFault, read_page, request_user};
 use std::alloc::{AllocError, Allocator};
+use std::mem;
 
 impl<A: Allocator + Copy> AtpPart<A> {
     // Takes the page that the reading asked for.
@@ -112,7 +113,8 @@ impl<A: Allocator + Copy> AtpPart<A> {
         ensures listed { (which : Table) (names : List (List ℕ)) → result ≡ Report.Zones (ZoneReport.List which names)
             → list.new ≡ Some names }
     {
-        let Ok(copy) = reading.reader.list_with(page) else {
+        let room = mem::replace(&mut self.names, Listed::from_vec(Vec::new(self.alloc)));
+        let Ok(copy) = reading.reader.list_with(page, room) else {
             self.reading = Some(reading);
             return Report::NoMemory;
         };

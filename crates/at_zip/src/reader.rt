@@ -5,7 +5,7 @@ ghost use Rattle.at_zip.specs.Reading.{HasRoomFor, place_after};
 
 use crate::fault::ZipFault;
 use crate::page_view::PageView;
-use crate::zones::{MAX_ZONES, copies_of};
+use crate::zones::{MAX_ZONES, copies_in};
 use at_ddp::{Listed, Pascal};
 use std::alloc::{AllocError, Allocator, Global};
 use std::marker::Model;
@@ -70,11 +70,16 @@ impl<A: Allocator + Copy> ZoneReader<A> {
         self.names.len() + page.count() > MAX_ZONES
     }
 
-    /// A list of the names so far, and then those of a page. The error is out of memory.
-    pub fn list_with(&self, page: &PageView<'_>) -> Result<Listed<Pascal, A>, AllocError>
+    /// A list of the names so far, and then those of a page, in the room of a list that is no longer wanted. The error
+    /// is out of memory.
+    pub fn list_with(
+        &self,
+        page: &PageView<'_>,
+        room: Listed<Pascal, A>,
+    ) -> Result<Listed<Pascal, A>, AllocError>
         ensures { IfOk result (λ list. list ≡ self.now.names ++ page.now.names) }
     {
-        let mut list = copies_of(self.alloc, &self.names)?;
+        let mut list = copies_in(room.into_vec(), &self.names)?;
         list.reserve(page.count())?;
         page.push_names(&mut list);
         Ok(Listed::from_vec(list))

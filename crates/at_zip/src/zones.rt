@@ -51,7 +51,7 @@ impl<A: Allocator> Zones<A> {
     {
         match table_fault(names) {
             None => Ok(Zones {
-                list: Listed::from_vec(copies_of(alloc, names)?),
+                list: Listed::from_vec(copies_in(Vec::new(alloc), names)?),
             }),
             Some(fault) => Err(fault),
         }
@@ -79,14 +79,15 @@ pub fn table_fault(names: &[Pascal]) -> Option<ZipFault>
     None
 }
 
-// Copies of these names, in order.
-pub(crate) fn copies_of<A: Allocator>(
-    alloc: A,
+// Copies of these names, in order, in some room.
+pub(crate) fn copies_in<A: Allocator>(
+    room: Vec<Pascal, A>,
     names: &[Pascal],
 ) -> Result<Vec<Pascal, A>, AllocError>
     ensures { IfOk result (λ copies. copies.items ≡ names.now) }
 {
-    let mut copies = Vec::new(alloc);
+    let mut copies = room;
+    copies.clear();
     for name in names {
         copies.push(Pascal::new(name.bytes()).unwrap())?;
     }

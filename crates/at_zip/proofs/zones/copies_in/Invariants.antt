@@ -1,5 +1,5 @@
 use Rattle.std.proofs.Common.{◌≡◌, take}
-use Rattle.at_zip.proofs.zones.copies_of.Given as goal
+use Rattle.at_zip.proofs.zones.copies_in.Given as goal
 
 -- the names so far are copied
 abbrev pub invariant-loop-name : goal.invariant-loop-name
