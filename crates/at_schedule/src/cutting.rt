@@ -1,7 +1,9 @@
 //! The lines of a text that lies in memory.
 ghost use Rattle.std.specs.Prelude.{◌≡◌, ◌==◌, ◌<◌, ◌∷◌, length, IfSome};
-ghost use Rattle.std.specs.List.{position_from};
+ghost use Rattle.memchr.specs.Find.{IsFirstByte};
 ghost use Rattle.at_schedule.specs.Schedules.{lines_in};
+
+use memchr::memchr;
 
 /// The first line of a text that has one, without its line feed, and what follows it.
 pub fn cut_line(text: &[u8]) -> (&[u8], &[u8])
@@ -16,8 +18,8 @@ pub fn cut_line(text: &[u8]) -> (&[u8], &[u8])
 }
 
 fn end_of_line(text: &[u8]) -> Option<usize>
-    ensures first { result ≡ position_from (λ byte. byte == 10) 0 text.now }
+    ensures first { IsFirstByte (λ byte. byte == 10) text.now result }
     ensures within { IfSome result (λ end. end < length text.now) }
 {
-    text.iter().position(|byte| *byte == b'\n')
+    memchr(b'\n', text)
 }

@@ -17,6 +17,9 @@ use at_setup::{Event, Setup};
 use at_setup_lines::laws::each_draft_can_end;
 use std::alloc::{Allocator, Global};
 
+/// How many bytes the line of an event has mostly, or more. So the list of events seldom grows, and they are not copied.
+const EVENT_LINE: usize = 12;
+
 /// An event, and the number of the line that says it, counted from 1.
 #[derive(Drop)]
 pub struct NumberedEvent<A: Allocator = Global> {
@@ -39,7 +42,7 @@ pub fn read_schedule<A: Allocator + Copy>(alloc: A, text: &[u8]) -> Result<Sched
 {
     each_draft_can_end::<A>();
     let mut draft = Draft::new(alloc);
-    let mut events = Vec::new(alloc);
+    let mut events = Vec::with_capacity(alloc, text.len() / EVENT_LINE)?;
     let mut number = 1usize;
     let mut rest = text;
     while !rest.is_empty() {
