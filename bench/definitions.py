@@ -21,10 +21,11 @@ HEAD = re.compile(r"^(?:(?:abbrev|unfoldable) )?(?:pub )?(?:record |data )?([^\s
 WORD = re.compile(r"[A-Za-z_][\w-]*(?:\.[A-Za-z_][\w-]*)?")
 
 # A type of the code, as the module is called that has it or its variants.
-DECLARED = re.compile(r"^(\w+)\.specs\.declared\.([\w.]+?)\.(\w+?)(?:\.TheVariants)?$")
+DECLARED = re.compile(r"^(\w+)\.specs\.declared\.(?:([\w.]+?)\.)?(?!TheVariants$)(\w+?)(?:\.TheVariants)?$")
 TYPE = re.compile(r"^pub(?:\(crate\))? (?:struct|enum) (\w+)")
 MODEL = re.compile(r"^impl.* Model for (\w+)", re.MULTILINE)
 USED_TYPES = re.compile(r"^(?:pub )?use (\w+)::([^;]*);", re.MULTILINE)
+MODULE = re.compile(r"^(?:pub )?mod (\w+);", re.MULTILINE)
 CAPITAL = re.compile(r"\b[A-Z]\w*")
 
 Module = collections.namedtuple("Module", "imports modules definitions")
@@ -98,10 +99,11 @@ def crates_of_types(path):
     with open(path, encoding="utf-8") as file:
         text = file.read()
     crate = path.split("/")[1]
+    own = {"crate", "super", "self", *MODULE.findall(text)}
     found = {}
     for source, names in USED_TYPES.findall(text):
         for name in CAPITAL.findall(names):
-            found[name] = crate if source in ("crate", "super", "self") else source
+            found[name] = crate if source in own else source
     return found
 
 
@@ -112,7 +114,7 @@ def types_named_by(module, text):
         places = [module.imports[first][0]] if first in module.imports else []
         places += [module.modules[first]] if second and first in module.modules else []
         for place in filter(None, map(DECLARED.match, places)):
-            yield place[1], place[2].replace(".", "/"), place[3]
+            yield place[1], (place[2] or "lib").replace(".", "/"), place[3]
 
 
 def count_types(named, all_types):
