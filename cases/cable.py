@@ -4,14 +4,17 @@ Each line has to be of the language of docs/SCHEDULES.md: one report an event, o
 under it what it sent. Anything else is `Wrong`, and so is a crash, or a play that does not come to its end in time.
 """
 
+import itertools
 import re
 import subprocess
 
+import protocols
+from patterns import BYTE, number
+
 SECONDS = 60
 
-# Refusals of a datagram, and of a packet in one. A new request may also meet a full socket.
-DATAGRAM, PACKET = (1, 2, 3, 4), (10, 11, 12, 20, 21, 22, 23, 40, 41, 42, 43, 44)
-FULL = 14
+# Refusals of a datagram. A new request may also meet a full socket.
+DATAGRAM, FULL = (1, 2, 3, 4), 14
 
 
 class Wrong(Exception):
@@ -40,95 +43,14 @@ def unsummed(datagram):
     return datagram if len(datagram) < 4 else datagram[:2] + b"\0\0" + datagram[4:]
 
 
-def word_of(data):
-    """Bytes as a word of a schedule."""
-    return data.hex().upper() or "-"
-
-
-def number(first, last):
-    """A pattern of the decimal numbers from 0 or 1 to the last, without a zero before them."""
-    digits = str(last)
-    parts = ["0"] * (first == 0) + [digits]
-    if len(digits) > 1:
-        parts.append(r"[1-9]\d{0,%d}" % (len(digits) - 2))
-    for place, digit in enumerate(digits):
-        least = 0 if place else 1
-        if int(digit) > least:
-            parts.append(f"{digits[:place]}[{least}-{int(digit) - 1}]" + r"\d{%d}" % (len(digits) - place - 1))
-    return "(?:" + "|".join(parts) + ")"
-
-
-BYTE, SHORT, END = number(0, 255), number(0, 65535), number(1, 65535)
-# A byte of a text stands for itself, or else is two digits, and never both.
-PLAIN = r"[A-Za-z0-9_.=*-]"
-ESCAPED = r"%(?!2[ADE]|3[0-9D]|4[1-9A-F]|5[0-9AF]|6[1-9A-F]|7[0-9A])[0-9A-F]{2}"
-NAME = f"(?:{PLAIN}|{ESCAPED}){{1,32}}"
-TEXT = f"(?:{NAME}|%)"
-HEX = "(?:[0-9A-F]{2})+"
-DATA = f"(?:{HEX}|-)"
-FIND = f"{TEXT}:{TEXT}@{TEXT},{BYTE},{BYTE},{BYTE}"
+# What a packet comes to, beside its refusals, and what else each kind of event does.
+COMES = protocols.rows("COMES")
+HEARD = " ".join(protocols.each("HEARD")) + " ignored"
+COMES["deliver"] = HEARD, (FULL,)
+COMES["forge"] = HEARD, (*DATAGRAM, *itertools.chain(*protocols.each("REFUSED")), FULL)
 
 # Each report, by its first word. Memory is ample here, so `nomemory` is none of them.
-REPORTS = {
-    "begun": SHORT,
-    "answered": "[0-8]",
-    "looking": BYTE,
-    "found": f"(?: {FIND}){{0,256}}",
-    "taken": FIND,
-    "opening": END,
-    "wrote": SHORT,
-    "read": f"(?: {HEX}(?= end|$)| end)*",
-    "closed": END,
-    "freed": END,
-    "response": f"{SHORT}(?: [0-9A-F]{{8}}:{DATA}){{1,8}}",
-    "failed": SHORT,
-    "asked": f"{BYTE} {BYTE} {SHORT} [0-9A-F]{{8}} {DATA}",
-    "served": "[01]",
-    "zones": f"(?: {NAME}){{0,1024}}",
-    "localzones": f"(?: {NAME}){{0,1024}}",
-    "zonefault": "3[1-4]",
-    "names": number(1, 64),
-    "finds": number(1, 15),
-    "made": END,
-    "opened": END,
-    "denied": END,
-    "heard": f"{END} {number(0, 573)}",
-    "dropped": END,
-}
-
-# What a packet may come to, beside its refusals.
-HEARD = "begun kept response zones localzones zonefault again asked served released relayed names finds made opened"
-HEARD += " turned denied heard dropped closed ignored"
-
-# The reports of each kind of event, and its refusals.
-COMES = {
-    "call ask": ("begun", (13, 14)),
-    "call answer": ("answered", (13, 15, 16, 18)),
-    "call zones": ("begun", (14, 60, 63)),
-    "call localzones": ("begun", (14, 60, 63)),
-    "call pick": ("done", (61,)),
-    "call setzones": ("done", (32, 34, 60)),
-    "call setlocal": ("done", (32, 34, 60)),
-    "call find": ("looking", (28,)),
-    "call claim": ("looking", (26, 28)),
-    "call finish": ("found claimed taken", (27, 29)),
-    "call open": ("opening", (50, 62)),
-    "call register": ("done", (24, 26, 27)),
-    "call unregister": ("done", (25,)),
-    "call listen": ("done", ()),
-    "call connect": ("opening", (50,)),
-    "call write": ("wrote", (51, 52, 53)),
-    "call read": ("read", (51, 52)),
-    "call reset": ("done", (51, 52)),
-    "call close": ("closed freed", (52,)),
-    "timer retry": ("again failed zonesfailed", (15,)),
-    "timer release": ("done", (15, 17)),
-    "timer lookup": ("again", (29,)),
-    "timer resend": ("again idle", (51, 52)),
-    "timer probe": ("again closed freed", (51, 52)),
-    "deliver": (HEARD, (FULL,)),
-    "forge": (HEARD, DATAGRAM + PACKET + (FULL,)),
-}
+REPORTS = protocols.rows("REPORTS")
 
 
 def pattern_of(words, refusals):

@@ -7,26 +7,25 @@ is forged is made of bytes that were sent: cut, changed, spliced, turned round, 
 import collections
 
 import cable
+import protocols
+from patterns import word_of
+from protocols.zones import ZONES
 
 NAMES = ("Printer", "Chat", "chat", "=")
 TEXTS = ("Lab", "*", "%", "%00%FF", "%C5", "A" * 32)
-ZONES = ("Lab", "Office", "LAB", "%FF", "Z" * 32)
 WORDS = (0, 1, 2, 0x40, 0x7FFF, 0x8000, 0xFFFE, 0xFFFF)
-SOCKETS = (2, 6, 128, 129, 130)
 
-# How often each call and timer comes, in parts.
-CALLS = dict(
-    ask=6, answer=8, zones=4, localzones=3, pick=2, setzones=1, setlocal=1, find=4, claim=2, finish=4, open=3
-)
-CALLS.update(register=4, unregister=1, listen=4, connect=4, write=6, read=4, reset=1, close=1)
-TIMERS = dict(retry=3, release=3, lookup=1, resend=3, probe=2)
-KINDS = {("call", kind): weight for kind, weight in CALLS.items()}
-KINDS.update({("timer", kind): weight for kind, weight in TIMERS.items()})
+# Each call and timer: how often it comes, in parts, and what draws the words after it.
+KINDS = {("call", kind): row for kind, row in protocols.rows("CALLS").items()}
+KINDS.update({("timer", kind): row for kind, row in protocols.rows("TIMERS").items()})
+WEIGHTS = [weight for weight, _ in KINDS.values()]
 
 # The reports of which a node has to have made one before it, to be sensible.
-NEEDS = dict(answer="asked", pick="zones localzones", finish="looking", open="found", unregister="done")
-NEEDS.update(retry="begun", lookup="looking", release="asked")
-NEEDS.update(dict.fromkeys(("write", "read", "reset", "close", "resend", "probe"), "opened"))
+NEEDS = protocols.rows("NEEDS")
+AT_ROUTER = protocols.words("AT_ROUTER")
+
+# Of each socket the type of its datagrams, and bytes that its packets begin with.
+FORGED = protocols.rows("FORGED")
 
 
 class Setup:
@@ -96,15 +95,16 @@ class Chance:
         """An event: a datagram that was sent, one that was not, a call or a timer."""
         if self.is_so(0.55):
             return self.delivery() if self.sent and self.is_so(0.5) else self.forgery()
-        first, kind = self.random.choices(list(KINDS), KINDS.values())[0]
+        first, kind = self.random.choices(list(KINDS), WEIGHTS)[0]
         needs = NEEDS.get(kind, "").split()
         ready = [node for node in self.setup.nodes if any(self.drawn[need, node] for need in needs)]
         if kind in NEEDS and not ready and self.is_so(0.8):
             return self.event()
         node = self.one(*ready) if ready and self.is_so(0.9) else self.node()
-        if kind in ("setzones", "setlocal") and self.setup.router:
+        if kind in AT_ROUTER and self.setup.router:
             node = self.setup.router
-        return f"{first} {node} {kind} {getattr(self, kind)(node)}".rstrip()
+        _, words = KINDS[first, kind]
+        return f"{first} {node} {kind} {words(self, node)}".rstrip()
 
     def delivery(self):
         fresh = sorted(self.fresh) if self.fresh and self.is_so(0.7) else range(len(self.sent))
@@ -112,84 +112,6 @@ class Chance:
         self.fresh.discard(which)
         node = self.sent[which][8] if which < len(self.sent) else 0
         return f"deliver {which} {node if node in range(1, 255) and self.is_so(0.98) else self.node()}"
-
-    # The words after each call and timer.
-
-    def ask(self, _):
-        address = f"{self.node()} {self.one(129, 129, 129, 6, 128, 200)}"
-        data = cable.word_of(self.data())
-        return f"{address} {self.user()} {data} {self.one(1, 2, 8)} {self.one('alo', 'xo')} {self.one(0, 1, 255)}"
-
-    def user(self):
-        return self.one("00000000", "08000001", "09000001", "DEADBEEF")
-
-    def answer(self, node):
-        packets = [f"{self.user()}:{cable.word_of(self.data())}" for _ in range(self.one(1, 1, 2, 8, 0, 9))]
-        return " ".join([self.key(node), *packets])
-
-    def key(self, node):
-        """Who asked, and under which number. What was forged may come of a node or a socket that no line names."""
-        asked = [rest.split()[:3] for rest in self.drawn["asked", node]]
-        asked = [words for words in asked if not {"0", "255"} & set(words[:2])]
-        if asked and self.is_so(0.9):
-            return " ".join(self.recent(asked))
-        return f"{self.node()} 128 {self.one(0, 1, 65535)}"
-
-    def zones(self, _):
-        return ""
-
-    localzones = zones
-
-    def pick(self, _):
-        return self.one(*ZONES)
-
-    def setzones(self, _):
-        return " ".join(self.random.choices((*ZONES, "%"), k=self.one(0, 1, 3, 30)))
-
-    setlocal = setzones
-
-    def find(self, _):
-        return " ".join(self.text() for _ in range(self.one(2, 3)))
-
-    def claim(self, _):
-        return f"{self.text()} {self.text()} {self.one(*SOCKETS)}"
-
-    register = claim
-
-    def unregister(self, _):
-        return f"{self.text()} {self.text()}"
-
-    def finish(self, node):
-        return self.known(node, 255, "looking")
-
-    def open(self, _):
-        return self.one(0, 0, 0, 1, 300)
-
-    def listen(self, _):
-        return self.one("on", "on", "off")
-
-    def connect(self, _):
-        return f"{self.node()} {self.one(130, 130, 130, 129)}"
-
-    def end(self, node):
-        return self.known(node, 65535, "opening", "made")
-
-    def write(self, node):
-        items = [self.one("end", cable.word_of(self.data())) for _ in range(self.one(0, 1, 2, 5))]
-        return " ".join([str(self.end(node)), *items])
-
-    def read(self, node):
-        return f"{self.end(node)} {self.one(0, 1, 10, 65535)}"
-
-    reset = close = resend = probe = end
-
-    def retry(self, node):
-        return self.known(node, 65535, "begun")
-
-    def release(self, node):
-        return f"{self.one(6, 129, 129)} {self.key(node)}"
-
-    lookup = finish
 
     # Forged bytes.
 
@@ -199,16 +121,15 @@ class Chance:
             body = self.one(self.cut, self.bent, self.placed, self.spliced, self.turned, self.tailed)(body)
         body = self.one(self.mended, self.mended, cable.summed, cable.unsummed, bytes)(body)
         node = body[8] if len(body) > 8 and body[8] in self.setup.nodes and self.is_so(0.95) else self.node()
-        return f"forge {node} {cable.word_of(body)}"
+        return f"forge {node} {word_of(body)}"
 
     def made(self):
         """A datagram that nobody sent: a header, and the packet of a socket with most of its bytes by chance."""
-        socket = self.one(*SOCKETS)
-        kind = {2: 2, 130: 7}.get(socket, 3)
+        socket = self.one(*FORGED)
+        kind, controls = FORGED[socket]
         net = self.setup.net.to_bytes(2, "big")
-        control = self.one(0x21, 0x31) if kind == 2 else self.one(0x40, 0x60, 0x80, 0x90, 0xC0)
-        packet = bytes([control, self.one(0, 1, 255)]) + self.random.randbytes(self.one(0, 6, 11, 19))
-        header = net + net + bytes([self.node(), self.node(), socket, self.one(*SOCKETS), kind])
+        packet = bytes([self.one(*controls), self.one(0, 1, 255)]) + self.random.randbytes(self.one(0, 6, 11, 19))
+        header = net + net + bytes([self.node(), self.node(), socket, self.one(*FORGED), kind])
         return self.mended(bytes(4) + header + packet)
 
     def mended(self, body):
