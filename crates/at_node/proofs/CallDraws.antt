@@ -42,7 +42,7 @@ use Rattle.at_name_socket.specs.declared.step.Finished.{Finished}
 use Rattle.at_name_socket.specs.declared.step.Finished.TheVariants as finished
 use Rattle.at_stream_socket.specs.Calls as calls
 use Rattle.at_stream_socket.specs.Sockets.{told_by as told_as, told_opening, told_read, told_wrote}
-use Rattle.at_event.specs.Outcomes.{Outcome, idle, refused_as}
+use Rattle.at_event.specs.Outcomes.{Outcome, idle, refused_as, over}
 use Rattle.at_event.specs.Seats.{at_socket}
 use Rattle.at_event.specs.declared.names.NameCall.{NameCall}
 use Rattle.at_event.specs.declared.names.NameCall.TheVariants.{Find, Claim, Finish, Register, Unregister}
@@ -65,17 +65,18 @@ use Rattle.at_event.specs.declared.names.NameTimer.TheVariants as nbp_timer
 use Rattle.at_event.specs.declared.streams.StreamTimer.TheVariants as adsp_timer
 use Rattle.at_event.specs.declared.seat.Seat.{Seat}
 use Rattle.at_session.specs.Sessions.{SessionState, address_at, is_listed, pattern_asked}
-use Rattle.at_transaction_socket.specs.AtpParts.{AtpState, Reading}
+use Rattle.at_zone_socket.specs.AtpParts.{AtpState, with_transactions, with_zones}
+use Rattle.at_zone_socket.specs.ZoneSockets.{Reading}
 use Rattle.at_node.specs.NameCalls.{asked_again, claimed_as, finished_as, found_as, refused_by, registered_as, told_of}
 use Rattle.at_node.specs.NameCalls.{unregistered_as}
 use Rattle.at_node.specs.Nodes.{NodeState, called, timed}
 use Rattle.at_node.specs.Numbers.{draw_of, drawn_by, name_draw, stream_draw, transaction_draw, zone_draw}
-use Rattle.at_transaction_socket.specs.RequesterSocket.{after_retry, asked_as, retry_fired}
-use Rattle.at_transaction_socket.specs.Responders.{expired, records_at}
+use Rattle.at_zone_socket.specs.AtpTimers.{after_retry, retry_fired, expired, records_at}
+use Rattle.at_transaction_socket.specs.RequesterSocket.{asked_as}
 use Rattle.at_transaction_socket.specs.ServiceSocket.{answered_with}
 use Rattle.at_node.specs.SessionCalls.{open_called, picked_as}
-use Rattle.at_transaction_socket.specs.ZoneReading.{after_failing, is_reading, reading_begins, zones_called}
-use Rattle.at_transaction_socket.specs.ZoneSocket.{set_zones_called, table_set}
+use Rattle.at_zone_socket.specs.ZoneReading.{after_failing, is_reading, reading_begins, zones_called}
+use Rattle.at_zone_socket.specs.ZoneSocket.{set_zones_called, table_set}
 use Rattle.at_node.specs.declared.numbers.Draw.{Draw}
 use Rattle.at_node.specs.declared.numbers.Draw.TheVariants.{Conn, Lookup, Tid}
 
@@ -97,34 +98,37 @@ module _ (A : Type 0) where
     begins which router (Some tid) = refl
 
     reads : (which : Which) (router : Option ℕ) (now : Option Reading) → By (zones_called s a which router now)
-        (cond (is_none router || is_some now) None (option_map (λ tid. Tid tid) (next_number a.requester)))
+        (cond (is_none router || is_some now) None (option_map (λ tid. Tid tid) (next_number a.transactions.requester)))
     reads which None now = refl
     reads which (Some router) (Some r) = refl
-    reads which (Some router) None = begins which router (next_number a.requester)
+    reads which (Some router) None = begins which router (next_number a.transactions.requester)
 
     asked : (to : Address) (user bytes : List ℕ) (wanted : ℕ) (xo : Bool) (retries : ℕ) (o : Option ℕ)
-        → By (asked_as s a to user bytes wanted xo retries o) (option_map (λ tid. Tid tid) o)
+        → By (over (with_transactions a) (asked_as s a.transactions to user bytes wanted xo retries o))
+        (option_map (λ tid. Tid tid) o)
     asked to user bytes wanted xo retries None = refl
     asked to user bytes wanted xo retries (Some tid) = refl
 
     asks : (to : Address) (user bytes : List ℕ) (wanted : ℕ) (xo : Bool) (retries : ℕ) (b : Bool)
-        → By (cond b (idle a (refused_as (atp.number_of AtpTooLong)))
-        (asked_as s a to user bytes wanted xo retries (next_number a.requester)))
-        (cond b None (option_map (λ tid. Tid tid) (next_number a.requester)))
+        → By (over (with_transactions a) (cond b (idle a.transactions (refused_as (atp.number_of AtpTooLong)))
+        (asked_as s a.transactions to user bytes wanted xo retries (next_number a.transactions.requester))))
+        (cond b None (option_map (λ tid. Tid tid) (next_number a.transactions.requester)))
     asks to user bytes wanted xo retries true = refl
-    asks to user bytes wanted xo retries false = asked to user bytes wanted xo retries (next_number a.requester)
+    asks to user bytes wanted xo retries false = asked to user bytes wanted xo retries
+        (next_number a.transactions.requester)
 
-    answers : (key : Key) (packets : List Packet) (o : Option AtpFault) → By (answered_with s a key packets o) None
+    answers : (key : Key) (packets : List Packet) (o : Option AtpFault) → By
+        (over (with_transactions a) (answered_with s a.transactions key packets o)) None
     answers key packets None = refl
     answers key packets (Some fault) = refused a (atp.number_of fault)
 
     sets : (tables : Tables) (which : Which) (names : List (List ℕ)) (o : Option ZipFault)
-        → By (table_set a tables which names o) None
+        → By (over (with_zones a) (table_set a.zones tables which names o)) None
     sets tables which names None = refl
     sets tables which names (Some fault) = refused a (zip.number_of fault)
 
     sets_zones : (tables : Option Tables) (which : Which) (names : List (List ℕ))
-        → By (set_zones_called a tables which names) None
+        → By (over (with_zones a) (set_zones_called a.zones tables which names)) None
     sets_zones None which names = refl
     sets_zones (Some tables) which names = sets tables which names (table_fault names)
 
@@ -134,7 +138,7 @@ module _ (A : Type 0) where
 
     retries : (tid : ℕ) (r : Retried) (x : Retry) → By (after_retry s a tid r x) None
     retries tid r retry.AskedAgain = refl
-    retries tid r retry.Failed = failing tid r (is_reading a.reading tid)
+    retries tid r retry.Failed = failing tid r (is_reading a.zones.reading tid)
 
     retries_some : (tid : ℕ) (o : Option Retried) → By (retry_fired s a tid o) None
     retries_some tid None = refl
@@ -250,11 +254,11 @@ module _ (A : Type 0) where
   transaction_draws n (Ask node socket user bytes wanted xo retries) =
       asks n.seat n.atp (at_socket n.seat node socket) user bytes wanted xo retries (nat_lt 578 (length bytes))
   transaction_draws n (Answer key packets) =
-      answers n.seat n.atp key packets (answer_fault n.atp.service_responder key packets)
+      answers n.seat n.atp key packets (answer_fault n.atp.transactions.service_responder key packets)
 
   zone_draws : (n : NodeState) (c : ZoneCall A) → By (called n (Zones c)) (zone_draw n c)
-  zone_draws n (zone.Read which) = reads n.seat n.atp which n.seat.router n.atp.reading
-  zone_draws n (zone.Set which names) = sets_zones n.seat n.atp n.atp.tables which names
+  zone_draws n (zone.Read which) = reads n.seat n.atp which n.seat.router n.atp.zones.reading
+  zone_draws n (zone.Set which names) = sets_zones n.seat n.atp n.atp.zones.tables which names
 
   name_draws : (n : NodeState) (c : NameCall) → By (called n (Names c)) (name_draw n c)
   name_draws n (Find object kind place) =
@@ -289,7 +293,8 @@ module _ (A : Type 0) where
   call_draws n (Session (Pick zone)) = picks n.session zone (is_listed n.session zone)
 
   pub timer_draws : (n : NodeState) (time : Timer) → By (timed n time) None
-  timer_draws n (timer.Transactions (atp_timer.Retry tid)) = retries_some n.seat n.atp tid (retried n.atp.requester tid)
+  timer_draws n (timer.Transactions (atp_timer.Retry tid)) = retries_some n.seat n.atp tid
+      (retried n.atp.transactions.requester tid)
   timer_draws n (timer.Transactions (atp_timer.Release own key)) =
       expires n.seat n.atp own key (expiry_fault (find (is_key key) (records_at n.atp own)))
   timer_draws n (timer.Names (nbp_timer.Lookup id)) = asks_again n.seat n.names (search_of n.names.lookups id)

@@ -16,8 +16,8 @@ use Rattle.at_event.specs.declared.transactions.TransactionReport.TheVariants as
 use Rattle.at_event.specs.declared.seat.Seat.{Seat}
 use Rattle.at_event.specs.declared.service.Reply.{Reply}
 use Rattle.at_event.specs.declared.service.Reply.TheVariants.{Later}
-use Rattle.at_transaction_socket.specs.AtpHearing.{HearsAtp}
-use Rattle.at_transaction_socket.specs.AtpParts.{AtpState}
+use Rattle.at_zone_socket.specs.AtpHearing.{HearsAtp}
+use Rattle.at_zone_socket.specs.AtpParts.{AtpState}
 use Rattle.at_node.specs.Numbers.{IsTold, drawn_by}
 use Rattle.at_node.specs.declared.numbers.Draw.TheVariants.{Conn, Tid}
 use Rattle.at_node.specs.Hearing.{Hears, HearsDatagram, HearsIt, HearsMine}
@@ -31,7 +31,7 @@ use Rattle.at_adsp_ends.specs.Tables.{EndTable}
 use Rattle.at_stream_socket.specs.Hearing.{HearsAdspFault, HearsSegment, HearsStreams, Makes, Requests, segment_heard}
 use Rattle.at_stream_socket.specs.Sockets.{told_by as told_as}
 use Rattle.at_event.specs.Outcomes.{Outcome, Over, Through, idle, over}
-use Rattle.at_transaction_socket.specs.Turning.{HasTurn}
+use Rattle.at_zone_socket.specs.Turning.{HasTurn}
 use Rattle.at_event.specs.Seats.{is_for_all, is_mine}
 use Rattle.at_node.proofs.NumberLemmas.{draw_same, nat_same}
 

@@ -7,7 +7,6 @@ mod ListedTimers
 mod MemberLemmas
 mod NameLemmas
 mod OnceLists
-mod Opened
 mod ReleaseLaws
 mod SentHeard
 mod SessionLemmas

@@ -15,7 +15,7 @@ use Rattle.at_event.specs.declared.names.NameTimer.TheVariants as nbp_timer
 use Rattle.at_event.specs.declared.streams.StreamTimer.TheVariants as adsp_timer
 use Rattle.at_nbp.specs.Lookups.{Search, has_id}
 use Rattle.at_node.specs.Nodes.{NodeState, timed}
-use Rattle.at_transaction_socket.specs.Responders.{records_at}
+use Rattle.at_zone_socket.specs.AtpTimers.{records_at}
 use Rattle.at_node.specs.Timers.{Acts, lookup_of, lookups, releases, retries, retry_of, ticks, timers_of}
 use Rattle.at_node.proofs.MemberLemmas.{There, there_seen, found_there, there_left, there_right, there_either}
 use Rattle.at_node.proofs.ReleaseLaws.{CanGo, acts_release, can_go_listed, listed_can_go, release_acts_6}
@@ -67,26 +67,27 @@ module _ (a b c d e f : List Timer) (t : Timer) where
 
 -- a timer is in one of the parts of a node's list
 abbrev pub InPart : NodeState → Timer → Type 0
-InPart n t = AnyPart (retries n.atp.requester.standing) (releases 6 n.atp.zone_responder)
-    (releases 129 n.atp.service_responder) (lookups n.names.lookups.searches)
+InPart n t = AnyPart (retries n.atp.transactions.requester.standing) (releases 6 n.atp.zones.zone_responder)
+    (releases 129 n.atp.transactions.service_responder) (lookups n.names.lookups.searches)
     (ticks tick.Retransmit n.streams.ends) (ticks tick.Probe n.streams.ends) t
 
 -- ---- what is listed acts
 
-pub listed_acts : (A : Type 0) (n : NodeState) (t : Timer) → IdsDiffer n.streams.ends → AreApart n.atp.zone_responder
-    → AreApart n.atp.service_responder → There (timers_of n) t → Acts n (timed {A = A} n t)
+pub listed_acts : (A : Type 0) (n : NodeState) (t : Timer) → IdsDiffer n.streams.ends → AreApart
+    n.atp.zones.zone_responder
+    → AreApart n.atp.transactions.service_responder → There (timers_of n) t → Acts n (timed {A = A} n t)
 listed_acts A n t ids zones services h =
-    go (part_of (retries n.atp.requester.standing) (releases 6 n.atp.zone_responder)
-    (releases 129 n.atp.service_responder) (lookups n.names.lookups.searches)
+    go (part_of (retries n.atp.transactions.requester.standing) (releases 6 n.atp.zones.zone_responder)
+    (releases 129 n.atp.transactions.service_responder) (lookups n.names.lookups.searches)
     (ticks tick.Retransmit n.streams.ends) (ticks tick.Probe n.streams.ends) t h)
   where
     go : InPart n t → Acts n (timed {A = A} n t)
     go (inl g) = retries_act A n t g
     go (inr (inl g)) =
-        let r = listed_can_go 6 n.atp.zone_responder t zones g in
+        let r = listed_can_go 6 n.atp.zones.zone_responder t zones g in
         subst (λ (x : Timer). Acts n (timed {A = A} n x)) (sym r.1) (release_acts_6 A n r.0 r.2)
     go (inr (inr (inl g))) =
-        let r = listed_can_go 129 n.atp.service_responder t services g in
+        let r = listed_can_go 129 n.atp.transactions.service_responder t services g in
         subst (λ (x : Timer). Acts n (timed {A = A} n x)) (sym r.1) (release_acts_129 A n r.0 r.2)
     go (inr (inr (inr (inl g)))) = lookups_act A n t g
     go (inr (inr (inr (inr (inl g))))) = ticks_act A n tick.Retransmit t ids g
@@ -99,23 +100,24 @@ release_part : (n : NodeState) (own : ℕ) (key : Key) → CanGo (records_at n.a
 release_part n own key h = go (own == 129) (own == 6) refl refl h
   where
     go : (b c : Bool) → (own == 129) ≡ b → (own == 6) ≡ c
-        → CanGo (cond b n.atp.service_responder (cond c n.atp.zone_responder [])) key
+        → CanGo (cond b n.atp.transactions.service_responder (cond c n.atp.zones.zone_responder [])) key
         → InPart n (timer.Transactions (atp_timer.Release own key))
-    go true c e f g = inr (inr (inl (subst (λ (k : ℕ). There (releases 129 n.atp.service_responder)
+    go true c e f g = inr (inr (inl (subst (λ (k : ℕ). There (releases 129 n.atp.transactions.service_responder)
         (timer.Transactions (atp_timer.Release k key))) (sym (eqb-true own 129 e))
-        (can_go_listed 129 key n.atp.service_responder g))))
-    go false true e f g = inr (inl (subst (λ (k : ℕ). There (releases 6 n.atp.zone_responder)
+        (can_go_listed 129 key n.atp.transactions.service_responder g))))
+    go false true e f g = inr (inl (subst (λ (k : ℕ). There (releases 6 n.atp.zones.zone_responder)
         (timer.Transactions (atp_timer.Release k key))) (sym (eqb-true own 6 f))
-        (can_go_listed 6 key n.atp.zone_responder g)))
+        (can_go_listed 6 key n.atp.zones.zone_responder g)))
     go false false e f g = absurd (let none = g.1 in cc)
 
 acts_part : (A : Type 0) (n : NodeState) (t : Timer) → Acts n (timed {A = A} n t) → InPart n t
 acts_part A n (timer.Transactions (atp_timer.Retry tid)) h =
     let one = acts_retry A n tid h in
-    let found = found_there (is_numbered tid) n.atp.requester.standing one.0 one.1 in
-    inl (subst (λ (k : ℕ). There (retries n.atp.requester.standing) (timer.Transactions (atp_timer.Retry k)))
+    let found = found_there (is_numbered tid) n.atp.transactions.requester.standing one.0 one.1 in
+    inl (subst (λ (k : ℕ). There (retries n.atp.transactions.requester.standing)
+    (timer.Transactions (atp_timer.Retry k)))
     (eqb-true (one.0).tid tid found.1)
-    (there_seen (λ (x : Transaction). retry_of x.tid) n.atp.requester.standing one.0 found.0))
+    (there_seen (λ (x : Transaction). retry_of x.tid) n.atp.transactions.requester.standing one.0 found.0))
 acts_part A n (timer.Transactions (atp_timer.Release own key)) h = release_part n own key (acts_release A n own key h)
 acts_part A n (timer.Names (nbp_timer.Lookup id)) h =
     let one = acts_lookup A n id h in
@@ -131,6 +133,6 @@ acts_part A n (timer.Streams (adsp_timer.Probe id)) h =
     inr (inr (inr (inr (inr (tick_listed n.streams.ends tick.Probe id one.0 one.1 one.2)))))
 
 pub acts_listed : (A : Type 0) (n : NodeState) (t : Timer) → Acts n (timed {A = A} n t) → There (timers_of n) t
-acts_listed A n t h = in_part (retries n.atp.requester.standing) (releases 6 n.atp.zone_responder)
-    (releases 129 n.atp.service_responder) (lookups n.names.lookups.searches)
+acts_listed A n t h = in_part (retries n.atp.transactions.requester.standing) (releases 6 n.atp.zones.zone_responder)
+    (releases 129 n.atp.transactions.service_responder) (lookups n.names.lookups.searches)
     (ticks tick.Retransmit n.streams.ends) (ticks tick.Probe n.streams.ends) t (acts_part A n t h)

@@ -212,35 +212,37 @@ probe_kind es t h =
 
 -- ---- all of them
 
-pub timers_once : (n : NodeState) → IsWithin n → AreApart n.atp.zone_responder → AreApart n.atp.service_responder
+pub timers_once : (n : NodeState) → IsWithin n → AreApart n.atp.zones.zone_responder → AreApart
+    n.atp.transactions.service_responder
     → AllPairs (λ a b. a ≢ b) (timers_of n)
 timers_once n within zones services = once_pairs (timers_of n) all.once
   where
-    first : Below 7 (retries n.atp.requester.standing)
+    first : Below 7 (retries n.atp.transactions.requester.standing)
     first = record {
-      once = once_retries n.atp.requester.standing (within.requester).differ;
-      low = λ t h. let is = retry_kind n.atp.requester.standing t h in omega (arith, is);
+      once = once_retries n.atp.transactions.requester.standing (within.requester).differ;
+      low = λ t h. let is = retry_kind n.atp.transactions.requester.standing t h in omega (arith, is);
     }
 
     all : Below 203 (timers_of n)
     all =
-        let a = joins 7 130 (retries n.atp.requester.standing) (releases 6 n.atp.zone_responder) first
-        (once_releases 6 n.atp.zone_responder zones) (release_kind 6 n.atp.zone_responder)
+        let a = joins 7 130 (retries n.atp.transactions.requester.standing) (releases 6 n.atp.zones.zone_responder)
+        first
+        (once_releases 6 n.atp.zones.zone_responder zones) (release_kind 6 n.atp.zones.zone_responder)
         (omega arith) in
-        let b = joins 130 200 (retries n.atp.requester.standing ++ releases 6 n.atp.zone_responder)
-        (releases 129 n.atp.service_responder) a
-        (once_releases 129 n.atp.service_responder services)
-        (release_kind 129 n.atp.service_responder) (omega arith) in
-        let c = joins 200 201 (retries n.atp.requester.standing ++ releases 6 n.atp.zone_responder
-        ++ releases 129 n.atp.service_responder) (lookups n.names.lookups.searches) b
+        let b = joins 130 200 (retries n.atp.transactions.requester.standing ++ releases 6 n.atp.zones.zone_responder)
+        (releases 129 n.atp.transactions.service_responder) a
+        (once_releases 129 n.atp.transactions.service_responder services)
+        (release_kind 129 n.atp.transactions.service_responder) (omega arith) in
+        let c = joins 200 201 (retries n.atp.transactions.requester.standing ++ releases 6 n.atp.zones.zone_responder
+        ++ releases 129 n.atp.transactions.service_responder) (lookups n.names.lookups.searches) b
         (once_lookups n.names.lookups.searches (within.lookups).differ) (lookup_kind n.names.lookups.searches)
         (omega arith) in
-        let d = joins 201 202 (retries n.atp.requester.standing ++ releases 6 n.atp.zone_responder
-        ++ releases 129 n.atp.service_responder ++ lookups n.names.lookups.searches)
+        let d = joins 201 202 (retries n.atp.transactions.requester.standing ++ releases 6 n.atp.zones.zone_responder
+        ++ releases 129 n.atp.transactions.service_responder ++ lookups n.names.lookups.searches)
         (ticks tick.Retransmit n.streams.ends) c
         (once_ticks tick.Retransmit n.streams.ends (within.ends).ids_differ) (resend_kind n.streams.ends)
         (omega arith) in
-        joins 202 203 (retries n.atp.requester.standing ++ releases 6 n.atp.zone_responder
-        ++ releases 129 n.atp.service_responder ++ lookups n.names.lookups.searches
+        joins 202 203 (retries n.atp.transactions.requester.standing ++ releases 6 n.atp.zones.zone_responder
+        ++ releases 129 n.atp.transactions.service_responder ++ lookups n.names.lookups.searches
         ++ ticks tick.Retransmit n.streams.ends) (ticks tick.Probe n.streams.ends) d
         (once_ticks tick.Probe n.streams.ends (within.ends).ids_differ) (probe_kind n.streams.ends) (omega arith)

@@ -15,7 +15,7 @@ use Rattle.at_event.specs.declared.Timer.{Timer}
 use Rattle.at_event.specs.declared.Timer.TheVariants as timer
 use Rattle.at_event.specs.declared.transactions.TransactionTimer.TheVariants as atp_timer
 use Rattle.at_node.specs.Nodes.{NodeState, timed, with_atp}
-use Rattle.at_transaction_socket.specs.Responders.{expired, records_at}
+use Rattle.at_zone_socket.specs.AtpTimers.{expired, records_at}
 use Rattle.at_node.specs.Timers.{Acts, release_of, releases}
 use Rattle.at_node.proofs.MemberLemmas.{There, there_some, some_there, found_there, sole_seen, without_differs}
 
@@ -33,20 +33,20 @@ found_by_key rs r apart there =
 
 -- ---- it acts if such a record is there
 
-pub release_acts_129 : (A : Type 0) (n : NodeState) (key : Key) → CanGo n.atp.service_responder key
+pub release_acts_129 : (A : Type 0) (n : NodeState) (key : Key) → CanGo n.atp.transactions.service_responder key
     → Acts n (timed {A = A} n (timer.Transactions (atp_timer.Release 129 key)))
 release_acts_129 A n key h = rw (h.1, h.2) (record {
   not_refused = refl;
-  does = inl (λ e. without_differs (is_key key) n.atp.service_responder h.0 h.1
-      (ap (λ (m : NodeState). m.atp.service_responder) e));
+  does = inl (λ e. without_differs (is_key key) n.atp.transactions.service_responder h.0 h.1
+      (ap (λ (m : NodeState). m.atp.transactions.service_responder) e));
 })
 
-pub release_acts_6 : (A : Type 0) (n : NodeState) (key : Key) → CanGo n.atp.zone_responder key
+pub release_acts_6 : (A : Type 0) (n : NodeState) (key : Key) → CanGo n.atp.zones.zone_responder key
     → Acts n (timed {A = A} n (timer.Transactions (atp_timer.Release 6 key)))
 release_acts_6 A n key h = rw (h.1, h.2) (record {
   not_refused = refl;
-  does = inl (λ e. without_differs (is_key key) n.atp.zone_responder h.0 h.1
-      (ap (λ (m : NodeState). m.atp.zone_responder) e));
+  does = inl (λ e. without_differs (is_key key) n.atp.zones.zone_responder h.0 h.1
+      (ap (λ (m : NodeState). m.atp.zones.zone_responder) e));
 })
 
 -- ---- and only then

@@ -17,8 +17,8 @@ use Rattle.at_atp_frame.specs.declared.fault.AtpFault.{AtpFault}
 use Rattle.at_event.specs.declared.service.Reply.{Reply}
 use Rattle.at_event.specs.declared.Report.TheVariants.{Ignored}
 use Rattle.at_event.specs.declared.seat.Seat.{Seat}
-use Rattle.at_transaction_socket.specs.AtpHearing.{AtpSocket, AtSocket, HearsAt, atp_socket}
-use Rattle.at_transaction_socket.specs.AtpParts.{AtpState}
+use Rattle.at_zone_socket.specs.AtpHearing.{AtpSocket, AtSocket, HearsAt, atp_socket}
+use Rattle.at_zone_socket.specs.AtpParts.{AtpState}
 use Rattle.at_node.specs.Hearing.{HearsIt, HearsMine, Hears, HearsSent}
 use Rattle.at_node.specs.Nodes.{NodeState, over_atp}
 use Rattle.at_event.specs.Outcomes.{Outcome, Through, idle}

@@ -17,7 +17,7 @@ use Rattle.at_event.specs.declared.Report.{Report}
 use Rattle.at_event.specs.declared.Report.TheVariants as report
 use Rattle.at_event.specs.declared.names.NameReport.TheVariants as nbp_report
 use Rattle.at_session.specs.Sessions.{SessionState, finds_kept, list_kept}
-use Rattle.at_transaction_socket.specs.AtpParts.{AtpState}
+use Rattle.at_zone_socket.specs.AtpParts.{AtpState}
 use Rattle.at_node.specs.NameCalls.{finish_called, finished_as, told_of}
 use Rattle.at_node.specs.Nodes.{NodeState, over_atp, over_finish}
 

@@ -13,54 +13,55 @@ use Rattle.at_event.specs.declared.names.NameTimer.TheVariants as nbp_timer
 use Rattle.at_nbp.specs.Lookups.{Search, has_id, search_of}
 use Rattle.at_node.specs.NameCalls.{asked_again}
 use Rattle.at_node.specs.Nodes.{NodeState, timed, with_atp, with_names}
-use Rattle.at_transaction_socket.specs.RequesterSocket.{retry_fired}
+use Rattle.at_zone_socket.specs.AtpTimers.{retry_fired}
 use Rattle.at_node.specs.Timers.{Acts, lookup_of, lookups, retries, retry_of}
-use Rattle.at_transaction_socket.specs.ZoneReading.{after_failing, is_reading}
+use Rattle.at_zone_socket.specs.ZoneReading.{after_failing, is_reading}
 use Rattle.at_node.proofs.MemberLemmas.{There, seen_there, there_found, without_differs}
 
 -- ---- retries
 
 pub retry_acts : (A : Type 0) (n : NodeState) (tid : ℕ) (t : Transaction)
-    → find (is_numbered tid) n.atp.requester.standing ≡ Some t
+    → find (is_numbered tid) n.atp.transactions.requester.standing ≡ Some t
     → Acts n (timed {A = A} n (timer.Transactions (atp_timer.Retry tid)))
 retry_acts A n tid t is = rw is (go t.retries)
   where
-    failed : (b : Bool) → Acts n (over (with_atp n) (after_failing {A = A} n.atp tid (record n.atp.requester {
-      standing = without_first (is_numbered tid) n.atp.requester.standing;
-    }) b))
+    failed : (b : Bool) → Acts n (over (with_atp n)
+        (after_failing {A = A} n.atp tid (record n.atp.transactions.requester {
+          standing = without_first (is_numbered tid) n.atp.transactions.requester.standing;
+        }) b))
     failed true = record {
       not_refused = refl;
-      does = inl (λ e. without_differs (is_numbered tid) n.atp.requester.standing t is
-          (ap (λ (m : NodeState). m.atp.requester.standing) e));
+      does = inl (λ e. without_differs (is_numbered tid) n.atp.transactions.requester.standing t is
+          (ap (λ (m : NodeState). m.atp.transactions.requester.standing) e));
     }
     failed false = record {
       not_refused = refl;
-      does = inl (λ e. without_differs (is_numbered tid) n.atp.requester.standing t is
-          (ap (λ (m : NodeState). m.atp.requester.standing) e));
+      does = inl (λ e. without_differs (is_numbered tid) n.atp.transactions.requester.standing t is
+          (ap (λ (m : NodeState). m.atp.transactions.requester.standing) e));
     }
 
     go : (k : ℕ) → Acts n (over (with_atp n) (retry_fired {A = A} n.seat n.atp tid
-        (Some (retried_with n.atp.requester tid t k))))
-    go zero = failed (is_reading n.atp.reading tid)
+        (Some (retried_with n.atp.transactions.requester tid t k))))
+    go zero = failed (is_reading n.atp.zones.reading tid)
     go (suc k) = record { not_refused = refl; does = inr (λ e. absurd (cc)) }
 
 pub acts_retry : (A : Type 0) (n : NodeState) (tid : ℕ)
     → Acts n (timed {A = A} n (timer.Transactions (atp_timer.Retry tid))) → (t : Transaction)
-    × (find (is_numbered tid) n.atp.requester.standing ≡ Some t)
-acts_retry A n tid h = go (find (is_numbered tid) n.atp.requester.standing) refl h
+    × (find (is_numbered tid) n.atp.transactions.requester.standing ≡ Some t)
+acts_retry A n tid h = go (find (is_numbered tid) n.atp.transactions.requester.standing) refl h
   where
-    go : (o : Option Transaction) → find (is_numbered tid) n.atp.requester.standing ≡ o
+    go : (o : Option Transaction) → find (is_numbered tid) n.atp.transactions.requester.standing ≡ o
         → Acts n (over (with_atp n) (retry_fired {A = A} n.seat n.atp tid
-        (option_map (λ t. retried_with n.atp.requester tid t t.retries) o))) → (t : Transaction)
-        × (find (is_numbered tid) n.atp.requester.standing ≡ Some t)
+        (option_map (λ t. retried_with n.atp.transactions.requester tid t t.retries) o))) → (t : Transaction)
+        × (find (is_numbered tid) n.atp.transactions.requester.standing ≡ Some t)
     go None e g = absurd (true≢false g.not_refused)
     go (Some t) e g = (t, e)
 
-pub retries_act : (A : Type 0) (n : NodeState) (t : Timer) → There (retries n.atp.requester.standing) t
+pub retries_act : (A : Type 0) (n : NodeState) (t : Timer) → There (retries n.atp.transactions.requester.standing) t
     → Acts n (timed {A = A} n t)
 retries_act A n t h =
-    let one = seen_there (λ (x : Transaction). retry_of x.tid) n.atp.requester.standing t h in
-    let found = there_found (is_numbered (one.0).tid) n.atp.requester.standing one.0 one.1
+    let one = seen_there (λ (x : Transaction). retry_of x.tid) n.atp.transactions.requester.standing t h in
+    let found = there_found (is_numbered (one.0).tid) n.atp.transactions.requester.standing one.0 one.1
     (eq-eqb (one.0).tid (one.0).tid refl) in
     subst (λ (x : Timer). Acts n (timed {A = A} n x)) one.2 (retry_acts A n (one.0).tid found.0 found.1)
 

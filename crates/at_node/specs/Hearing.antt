@@ -8,7 +8,7 @@ use Rattle.at_ddp.specs.Protocols.{atp_kind, nbp_kind, adsp_kind}
 use Rattle.at_atp_frame.specs.Frames.{Content}
 use Rattle.at_event.specs.declared.Report.TheVariants as report
 use Rattle.at_event.specs.declared.service.Reply.{Reply}
-use Rattle.at_transaction_socket.specs.AtpHearing.{AtSocket, HearsAtp, atp_socket}
+use Rattle.at_zone_socket.specs.AtpHearing.{AtSocket, HearsAtp, atp_socket}
 use Rattle.at_node.specs.NameHearing.{HearsNames}
 use Rattle.at_node.specs.Nodes.{NodeState, over_atp, with_names, with_streams}
 use Rattle.at_event.specs.Outcomes.{Outcome, Over, Through, idle}

@@ -13,10 +13,10 @@ use Rattle.at_node.specs.Nodes.{NodeState}
 -- are open with 256 finds each, and 16 ends stand with queues that fit their rooms. Each of a router's
 -- tables has at most 1,024 names.
 pub record IsWithin (n : NodeState) : Type 0 where
-  pub requester : IsRequester n.atp.requester
-  pub zone_records : length n.atp.zone_responder ≤ 64
-  pub service_records : length n.atp.service_responder ≤ 64
-  pub tables : IfSome n.atp.tables AreTables
+  pub requester : IsRequester n.atp.transactions.requester
+  pub zone_records : length n.atp.zones.zone_responder ≤ 64
+  pub service_records : length n.atp.transactions.service_responder ≤ 64
+  pub tables : IfSome n.atp.zones.tables AreTables
   pub names : AreNames n.names.table.names
   pub lookups : AreLookups n.names.lookups
   pub ends : AreEnds n.streams

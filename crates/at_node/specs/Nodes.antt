@@ -26,19 +26,19 @@ use Rattle.at_event.specs.declared.transactions.TransactionTimer.TheVariants as 
 use Rattle.at_event.specs.declared.names.NameTimer.TheVariants as nbp_timer
 use Rattle.at_event.specs.declared.streams.StreamTimer.TheVariants as adsp_timer
 use Rattle.at_event.specs.declared.seat.Seat.{Seat}
-use Rattle.at_transaction_socket.specs.AtpParts as atp
-use Rattle.at_transaction_socket.specs.AtpParts.{AtpState}
+use Rattle.at_zone_socket.specs.AtpParts as atp
+use Rattle.at_zone_socket.specs.AtpParts.{AtpState, with_transactions, with_zones}
 use Rattle.at_node.specs.NameCalls.{claim_called, find_called, finish_called, lookup_fired}
 use Rattle.at_node.specs.NameCalls.{register_called, unregister_called}
 use Rattle.at_event.specs.Outcomes.{Outcome, over}
 use Rattle.at_session.specs.Sessions.{SessionState, address_at, finds_kept, list_kept, new_session, pattern_asked}
 use Rattle.at_node.specs.SessionCalls.{open_called, pick_called}
-use Rattle.at_transaction_socket.specs.RequesterSocket.{ask_called, retry_fired}
-use Rattle.at_transaction_socket.specs.Responders.{release_fired}
+use Rattle.at_transaction_socket.specs.RequesterSocket.{ask_called}
+use Rattle.at_zone_socket.specs.AtpTimers.{retry_fired, release_fired}
 use Rattle.at_event.specs.Seats.{at_socket}
 use Rattle.at_transaction_socket.specs.ServiceSocket.{answer_called}
-use Rattle.at_transaction_socket.specs.ZoneReading.{zones_called}
-use Rattle.at_transaction_socket.specs.ZoneSocket.{set_zones_called}
+use Rattle.at_zone_socket.specs.ZoneReading.{zones_called}
+use Rattle.at_zone_socket.specs.ZoneSocket.{set_zones_called}
 use Rattle.at_stream_socket.specs.Calls.{close_called, connect_called, listen_called, read_called, reset_called}
 use Rattle.at_stream_socket.specs.Calls.{tick_fired, write_called}
 
@@ -83,12 +83,12 @@ over_finish n o = over (λ part. record n { names = part; session = finds_kept n
 -- what a call does to the part of its protocol
 abbrev pub transaction_called : {A : Type 0} → Seat → AtpState → TransactionCall A → Outcome A AtpState
 transaction_called s a (Ask node socket user bytes wanted xo retries) =
-    ask_called s a (at_socket s node socket) user bytes wanted xo retries
-transaction_called s a (Answer key packets) = answer_called s a key packets
+    over (with_transactions a) (ask_called s a.transactions (at_socket s node socket) user bytes wanted xo retries)
+transaction_called s a (Answer key packets) = over (with_transactions a) (answer_called s a.transactions key packets)
 
 abbrev pub zone_called : {A : Type 0} → Seat → AtpState → ZoneCall A → Outcome A AtpState
-zone_called s a (zone.Read which) = zones_called s a which s.router a.reading
-zone_called s a (zone.Set which names) = set_zones_called a a.tables which names
+zone_called s a (zone.Read which) = zones_called s a which s.router a.zones.reading
+zone_called s a (zone.Set which names) = over (with_zones a) (set_zones_called a.zones a.zones.tables which names)
 
 abbrev pub stream_called : {A : Type 0} → Seat → EndTable → SessionState → StreamCall A → Outcome A EndTable
 stream_called s t user (Open index) = open_called s t (address_at user index)
@@ -122,7 +122,7 @@ called n (Session call) = over (with_session n) (session_called n.session call)
 
 abbrev pub timed : {A : Type 0} → NodeState → Timer → Outcome A NodeState
 timed n (timer.Transactions (atp_timer.Retry tid)) =
-    over (with_atp n) (retry_fired n.seat n.atp tid (retried n.atp.requester tid))
+    over (with_atp n) (retry_fired n.seat n.atp tid (retried n.atp.transactions.requester tid))
 timed n (timer.Transactions (atp_timer.Release own key)) = over (with_atp n) (release_fired n.atp own key)
 timed n (timer.Names (nbp_timer.Lookup id)) = over (with_names n) (lookup_fired n.seat n.names id)
 timed n (timer.Streams (adsp_timer.Resend id)) = over (with_streams n) (tick_fired n.seat n.streams id tick.Retransmit)

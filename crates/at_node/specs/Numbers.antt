@@ -34,7 +34,7 @@ use Rattle.at_event.specs.declared.names.NameReport.TheVariants as nbp_report
 use Rattle.at_event.specs.declared.streams.StreamReport.TheVariants as adsp_report
 use Rattle.at_event.specs.declared.service.Reply.{Reply}
 use Rattle.at_session.specs.Sessions.{address_at}
-use Rattle.at_transaction_socket.specs.Turning.{HasTurn}
+use Rattle.at_zone_socket.specs.Turning.{HasTurn}
 use Rattle.at_node.specs.Hearing.{Hears}
 use Rattle.at_node.specs.Nodes.{NodeState}
 use Rattle.at_node.specs.declared.numbers.Draw.{Draw}
@@ -52,7 +52,7 @@ drawn_by other = None
 
 -- the next number of a transaction, the next identifier of a lookup, and the next of an end
 abbrev pub next_tid : NodeState → Option Draw
-next_tid n = option_map (λ tid. Tid tid) (next_number n.atp.requester)
+next_tid n = option_map (λ tid. Tid tid) (next_number n.atp.transactions.requester)
 
 abbrev pub next_lookup : NodeState → Option Draw
 next_lookup n = option_map (λ id. Lookup id) (next_id n.names.lookups)
@@ -69,7 +69,7 @@ transaction_draw n (Ask node socket user bytes wanted xo retries) =
 transaction_draw n (Answer key packets) = None
 
 abbrev pub zone_draw : {A : Type 0} → NodeState → ZoneCall A → Option Draw
-zone_draw n (zone.Read which) = if is_none n.seat.router || is_some n.atp.reading then None else next_tid n
+zone_draw n (zone.Read which) = if is_none n.seat.router || is_some n.atp.zones.reading then None else next_tid n
 zone_draw n (zone.Set which names) = None
 
 abbrev pub name_draw : NodeState → NameCall → Option Draw
@@ -120,7 +120,8 @@ pub record IsTold (A : Type 0) (n : NodeState) (bytes : List ℕ) (draw : Draw) 
 -- with this identifier? nobody holds the identifier of a lookup
 abbrev pub holds : NodeState → ℕ → Draw → Bool
 holds n node (Tid tid) =
-    list_any (is_from node tid) n.atp.zone_responder || list_any (is_from node tid) n.atp.service_responder
+    list_any (is_from node tid) n.atp.zones.zone_responder || list_any (is_from node tid)
+    n.atp.transactions.service_responder
 holds n node (Lookup id) = false
 holds n node (Conn id) = list_any (has_remote_at node id) n.streams.ends
 

@@ -53,7 +53,8 @@ ticks tick ends = filter_map (λ e. option_map (timer_of tick) (heeding tick e))
 -- the timers of a node that would do something now, in the order of its parts
 abbrev pub timers_of : NodeState → List Timer
 timers_of n =
-    retries n.atp.requester.standing ++ releases 6 n.atp.zone_responder ++ releases 129 n.atp.service_responder
+    retries n.atp.transactions.requester.standing ++ releases 6 n.atp.zones.zone_responder ++ releases 129
+    n.atp.transactions.service_responder
     ++ lookups n.names.lookups.searches ++ ticks tick.Retransmit n.streams.ends ++ ticks tick.Probe n.streams.ends
 
 -- ---- what a timer does

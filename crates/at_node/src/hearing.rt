@@ -3,7 +3,7 @@ ghost use Rattle.std.specs.Prelude.{◌≡◌};
 ghost use Rattle.at_event.specs.Outcomes.{Comes, Through};
 ghost use Rattle.at_event.specs.Services.{Serves};
 ghost use Rattle.at_event.specs.declared.service.Reply.{Reply};
-ghost use Rattle.at_transaction_socket.specs.AtpHearing.{HearsAtp};
+ghost use Rattle.at_zone_socket.specs.AtpHearing.{HearsAtp};
 ghost use Rattle.at_node.specs.Hearing.{HearsIt, Hears};
 ghost use Rattle.at_node.specs.Nodes.{over_atp};
 ghost use Rattle.at_packet.specs.Bodies.{IsBody, datagram_of};

@@ -36,7 +36,7 @@ pub fn what_is_drawn_is_told<A: Allocator>()
         ↔ DrawsHearing n bytes draw }
 {
     at_stream_socket::laws::requests_alone_make_ends();
-    at_transaction_socket::laws::pages_alone_begin_transactions::<A>();
+    at_zone_socket::laws::pages_alone_begin_transactions::<A>();
 }
 
 /// The bytes of a packet carry the number of that packet.

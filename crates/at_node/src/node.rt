@@ -12,7 +12,7 @@ use at_ddp::Datagrams;
 use at_event::{Call, NameTimer, Report, Seat, StreamTimer, Timer, TransactionTimer};
 use at_session::Session;
 use at_stream_socket::StreamSocket;
-use at_transaction_socket::AtpPart;
+use at_zone_socket::AtpPart;
 use std::alloc::{Allocator, Global};
 use std::marker::Model;
 

@@ -9,7 +9,7 @@ ghost use Rattle.at_node.specs.Numbers.{Carries, CarriesNumber, Draws, IsTold, d
 ghost use Rattle.at_node.specs.Hearing.{HearsIt};
 ghost use Rattle.at_node.specs.Nodes.{NodeState};
 ghost use Rattle.at_event.specs.Outcomes.{Outcome as Result};
-ghost use Rattle.at_transaction_socket.specs.Turning.{HasTurn};
+ghost use Rattle.at_zone_socket.specs.Turning.{HasTurn};
 ghost use Rattle.at_node.specs.declared.numbers.Draw.{Draw as Drawn};
 ghost use Rattle.at_node.specs.declared.numbers.Draw.TheVariants.{Conn, Lookup, Tid};
 ghost use Rattle.at_packet.specs.Bodies.{IsBody, datagram_of};
@@ -22,8 +22,8 @@ use at_atp_frame::owner;
 use at_event::{Call, Timer};
 use at_packet::{AdspPacket, AtpPacket, Body, NbpPacket, Packet};
 use at_stream_socket::laws::requests_alone_make_ends;
-use at_transaction_socket::laws::pages_alone_begin_transactions;
 use at_transaction_socket::tid_of;
+use at_zone_socket::laws::pages_alone_begin_transactions;
 use std::alloc::{Allocator, Global};
 
 /// A number that a node draws. It is not to be drawn again while a packet or a record has it, or an end that is
@@ -138,7 +138,7 @@ impl<A: Allocator + Copy> Node<A> {
     }
 
     pub(crate) fn next_draw(&self) -> Option<Draw>
-        ensures { result ≡ option_map (λ tid. Tid tid) (next_number self.now.atp.requester) }
+        ensures { result ≡ option_map (λ tid. Tid tid) (next_number self.now.atp.transactions.requester) }
     {
         let tid = self.atp.next_tid()?;
         Some(Draw::Tid(tid))

@@ -7,7 +7,7 @@ ghost use Rattle.at_event.specs.declared.Timer.{Timer as Fired};
 ghost use Rattle.at_node.specs.Nodes.{timed};
 ghost use Rattle.at_node.specs.Timers.{Acts, Adds, lookups, release_of, releases, retries, ticks, timer_of};
 ghost use Rattle.at_node.specs.Timers.{timers_of};
-ghost use Rattle.at_transaction_socket.specs.Responders.{records_at};
+ghost use Rattle.at_zone_socket.specs.AtpTimers.{records_at};
 
 use crate::node::Node;
 use at_adsp_ends::Tick;
@@ -15,7 +15,8 @@ use at_atp::Key;
 use at_event::{NameTimer, StreamTimer, Timer, TransactionTimer};
 use at_name_socket::NameSocket;
 use at_stream_socket::StreamSocket;
-use at_transaction_socket::{AtpPart, SERVICE_SOCKET, ZONE_SOCKET};
+use at_transaction_socket::SERVICE_SOCKET;
+use at_zone_socket::{AtpPart, ZONE_SOCKET};
 use std::alloc::{AllocError, Allocator};
 
 impl<A: Allocator + Copy> Node<A> {
@@ -73,8 +74,8 @@ impl<A: Allocator + Copy> Node<A> {
 
     // No two records of a socket are of one request. The body only visits them.
     fn keys_differ(&self)
-        ensures zones { AreApart self.now.atp.zone_responder }
-        ensures services { AreApart self.now.atp.service_responder }
+        ensures zones { AreApart self.now.atp.zones.zone_responder }
+        ensures services { AreApart self.now.atp.transactions.service_responder }
     {
         self.atp.keys_differ();
     }
@@ -86,7 +87,7 @@ fn list_retries<A: Allocator + Copy>(
     place: usize,
     timers: &mut Vec<Timer, A>,
 ) -> Result<(), AllocError>
-    ensures { Adds (retries (drop place part.now.requester.standing)) result timers.old timers.new }
+    ensures { Adds (retries (drop place part.now.transactions.requester.standing)) result timers.old timers.new }
 {
     if place >= part.open_count() {
         return Ok(());

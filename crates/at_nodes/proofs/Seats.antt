@@ -14,7 +14,7 @@ use Rattle.at_event.specs.declared.transactions.TransactionTimer.TheVariants as 
 use Rattle.at_event.specs.declared.names.NameTimer.TheVariants as nbp_timer
 use Rattle.at_event.specs.declared.streams.StreamTimer.TheVariants as adsp_timer
 use Rattle.at_event.specs.declared.service.Reply.{Reply}
-use Rattle.at_transaction_socket.specs.AtpHearing.{HearsAtp}
+use Rattle.at_zone_socket.specs.AtpHearing.{HearsAtp}
 use Rattle.at_node.specs.Hearing.{Hears, HearsIt, HearsMine}
 use Rattle.at_node.specs.NameHearing.{HearsNames}
 use Rattle.at_nodes.specs.Nodes.{KeepsSeat}

@@ -18,7 +18,7 @@ use Rattle.at_event.specs.declared.Report.TheVariants as report
 use Rattle.at_event.specs.declared.Timer.{Timer}
 use Rattle.at_event.specs.declared.Timer.TheVariants as timer
 use Rattle.at_event.specs.declared.service.Reply.{Reply}
-use Rattle.at_transaction_socket.specs.AtpHearing.{HearsAtp}
+use Rattle.at_zone_socket.specs.AtpHearing.{HearsAtp}
 use Rattle.at_node.specs.Hearing.{Hears, HearsIt, HearsMine}
 use Rattle.at_node.specs.NameHearing.{HearsNames}
 use Rattle.at_node.specs.Nodes.{NodeState, called, over_atp, timed, with_names, with_session, with_streams}

@@ -13,7 +13,9 @@ use Rattle.at_steps.specs.Entries.{Coding, AreEntries}
 use Rattle.at_atp.specs.Network.{Sent, Drawn, Happening, AllTimely, IsTimely, after, done}
 use Rattle.at_atp.specs.Transactions.{Transaction, transaction_of}
 use Rattle.at_zip.specs.Tables.{Tables, AreTables}
-use Rattle.at_transaction_socket.specs.AtpParts.{AtpState, Reading, asking, serving, zones_at}
+use Rattle.at_zone_socket.specs.AtpParts.{AtpState}
+use Rattle.at_zone_socket.specs.ZoneSockets.{Reading, zones_at}
+use Rattle.at_transaction_socket.specs.TransactionSockets.{asking, serving}
 use Rattle.at_node.specs.Numbers.{drawn_by}
 use Rattle.at_node.specs.Nodes.{NodeState}
 use Rattle.at_event.specs.Kinds.{Kind, Atp, reporter_of}
@@ -40,12 +42,13 @@ IsOn net t = (t.requester.net ≡ net) × (t.responder.net ≡ net)
 
 -- the transaction that reads a zone table is open
 abbrev pub IsOpen : AtpState → Type 0
-IsOpen a = (r : Reading) → a.reading ≡ Some r → has_number a.requester.standing r.tid ≡ true
+IsOpen a = (r : Reading) → a.zones.reading ≡ Some r → has_number a.transactions.requester.standing r.tid ≡ true
 
 -- and it is at-least-once: so is the newest transaction of its number
 abbrev pub ReadsAtLeastOnce : List Transaction → Address → AtpState → Type 0
 ReadsAtLeastOnce asked who a =
-    (r : Reading) → a.reading ≡ Some r → (t : Transaction) → transaction_of asked who r.tid ≡ Some t → t.xo ≡ false
+    (r : Reading) → a.zones.reading ≡ Some r → (t : Transaction) → transaction_of asked who r.tid ≡ Some t → t.xo
+    ≡ false
 
 -- After this history the node's sockets are those of its part. No packet outlived its number, and all that was asked
 -- and answered is in range.
@@ -56,12 +59,12 @@ pub record Stands (A : Type 0) (history : List Happening) (net number : ℕ) (n 
   pub small_number : number < 256
   pub small_router : (router : ℕ) → n.seat.router ≡ Some router → router < 256
   pub on_net : AllByRecursion (IsOn net) (after A history).asked
-  pub requester : (after A history).requesters (asking net number) ≡ n.atp.requester
-  pub zones : (after A history).responders (zones_at net number) ≡ n.atp.zone_responder
-  pub service : (after A history).responders (serving net number) ≡ n.atp.service_responder
+  pub requester : (after A history).requesters (asking net number) ≡ n.atp.transactions.requester
+  pub zones : (after A history).responders (zones_at net number) ≡ n.atp.zones.zone_responder
+  pub service : (after A history).responders (serving net number) ≡ n.atp.transactions.service_responder
   pub is_open : IsOpen n.atp
   pub at_least_once : ReadsAtLeastOnce (after A history).asked (asking net number) n.atp
-  pub has_tables : (tables : Tables) → n.atp.tables ≡ Some tables → AreTables tables
+  pub has_tables : (tables : Tables) → n.atp.zones.tables ≡ Some tables → AreTables tables
 
 -- no record of these is of this requester and number
 abbrev pub HoldsNo : Address → ℕ → List Record → Type 0
@@ -94,10 +97,10 @@ pub record Happens (A : Type 0) (history : List Happening) (net number : ℕ) (n
   pub in_range : IsInRange happening
   pub same_event : (done A (after A history) happening).event ≡ (after A history).event
   pub requesters : (who : Address) → (done A (after A history) happening).requesters who
-      ≡ put (after A history).requesters (asking net number) o.state.atp.requester who
+      ≡ put (after A history).requesters (asking net number) o.state.atp.transactions.requester who
   pub responders : (at : Address) → (done A (after A history) happening).responders at
-      ≡ put (put (after A history).responders (serving net number) o.state.atp.service_responder)
-      (zones_at net number) o.state.atp.zone_responder at
+      ≡ put (put (after A history).responders (serving net number) o.state.atp.transactions.service_responder)
+      (zones_at net number) o.state.atp.zones.zone_responder at
   pub more : List (Option Sent)
   pub sent : (done A (after A history) happening).sent ≡ (after A history).sent ++ more
   pub posts : AreEntries atp_coding (after A history).event o.out more
@@ -105,9 +108,9 @@ pub record Happens (A : Type 0) (history : List Happening) (net number : ℕ) (n
       ++ numbers_drawn (after A history).event (asking net number) (drawn_by o.report)
   pub on_net : AllByRecursion (IsOn net) (done A (after A history) happening).asked
   pub is_open : IsOpen o.state.atp
-  pub same_tables : sets_table o.report ≡ false → o.state.atp.tables ≡ n.atp.tables
-  pub has_tables : (tables : Tables) → o.state.atp.tables ≡ Some tables → AreTables tables
-  pub matches : Matches net number n.atp.tables (after A history) happening act o.report
+  pub same_tables : sets_table o.report ≡ false → o.state.atp.zones.tables ≡ n.atp.zones.tables
+  pub has_tables : (tables : Tables) → o.state.atp.zones.tables ≡ Some tables → AreTables tables
+  pub matches : Matches net number n.atp.zones.tables (after A history) happening act o.report
 
 abbrev pub change : {A : Type 0} {history : List Happening} {net number : ℕ} {n : NodeState} {act : Act A}
     {o : Outcome A NodeState} → Happens A history net number n act o → Change A

@@ -17,7 +17,7 @@ use Rattle.at_atp.specs.Transactions.{answered}
 use Rattle.at_zip.specs.Request.{RequestSpells}
 use Rattle.at_zip.specs.Tables.{Tables, table_of}
 use Rattle.at_zip.specs.declared.request.Which.{Which}
-use Rattle.at_transaction_socket.specs.AtpParts.{asking}
+use Rattle.at_transaction_socket.specs.TransactionSockets.{asking}
 use Rattle.at_event.specs.declared.Call.TheVariants.{Transactions, Zones}
 use Rattle.at_event.specs.declared.transactions.TransactionCall.TheVariants.{Ask, Answer}
 use Rattle.at_event.specs.declared.zones.ZoneCall.TheVariants as zone

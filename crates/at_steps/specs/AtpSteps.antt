@@ -14,8 +14,10 @@ use Rattle.at_zip.specs.Zones.{IsTable}
 use Rattle.at_zip.specs.Tables.{Tables, table_of, with_table}
 use Rattle.at_zip.specs.declared.request.Which.{Which}
 use Rattle.at_zip.specs.declared.fault.ZipFault.{ZipFault}
-use Rattle.at_transaction_socket.specs.AtpParts.{AtpState, Reading, asking, serving, zones_at}
-use Rattle.at_transaction_socket.specs.ZoneSocket.{page_packet}
+use Rattle.at_zone_socket.specs.AtpParts.{AtpState}
+use Rattle.at_zone_socket.specs.ZoneSockets.{Reading, zones_at}
+use Rattle.at_transaction_socket.specs.TransactionSockets.{asking, serving}
+use Rattle.at_zone_socket.specs.ZoneSocket.{page_packet}
 use Rattle.at_event.specs.declared.Call.TheVariants.{Transactions, Zones}
 use Rattle.at_event.specs.declared.transactions.TransactionCall.TheVariants.{Ask, Answer}
 use Rattle.at_event.specs.declared.zones.ZoneCall.TheVariants as zone
@@ -76,7 +78,7 @@ pub record Change (A : Type 0) : Type 0 where
 pub record IsPlain {A : Type 0} (c : Change A) : Type 0 where
   pub plain : is_plain c.act c.report ≡ true
   pub asked : c.now_asked ≡ c.asked
-  pub reading : c.now.reading ≡ c.part.reading
+  pub reading : c.now.zones.reading ≡ c.part.zones.reading
 
 -- the node's user begins a transaction, which is not the one that reads a zone table
 pub record BeginsAsking {A : Type 0} (net number : ℕ) (c : Change A) : Type 0 where
@@ -93,8 +95,8 @@ pub record BeginsAsking {A : Type 0} (net number : ℕ) (c : Change A) : Type 0 
   pub asked : c.now_asked
       ≡ new_transaction net number (record { net = net; node = node; socket = socket }) user bytes wanted xo tid
       ∷ c.asked
-  pub reading : c.now.reading ≡ c.part.reading
-  pub apart : (r : Reading) → c.part.reading ≡ Some r → (tid == r.tid) ≡ false
+  pub reading : c.now.zones.reading ≡ c.part.zones.reading
+  pub apart : (r : Reading) → c.part.zones.reading ≡ Some r → (tid == r.tid) ≡ false
 
 -- a reading of a zone table begins: the node asks its router for the first page, one packet, at least once
 pub record BeginsReading {A : Type 0} (net number : ℕ) (router : Option ℕ) (c : Change A) : Type 0 where
@@ -105,7 +107,7 @@ pub record BeginsReading {A : Type 0} (net number : ℕ) (router : Option ℕ) (
   pub act : c.act ≡ Calls (Zones (zone.Read which))
   pub report : c.report ≡ report.Transactions (atp_report.Begun tid)
   pub asked : c.now_asked ≡ page_asked net number (zones_at net server) which [] tid ∷ c.asked
-  pub reading : c.now.reading ≡ Some (record { which = which; tid = tid; names = [] })
+  pub reading : c.now.zones.reading ≡ Some (record { which = which; tid = tid; names = [] })
 
 -- the router gets another zone table in the place of one
 pub record SetsTable {A : Type 0} (c : Change A) : Type 0 where
@@ -114,11 +116,11 @@ pub record SetsTable {A : Type 0} (c : Change A) : Type 0 where
   pub tables : Tables
   pub act : c.act ≡ Calls (Zones (zone.Set which names))
   pub report : c.report ≡ report.Zones zip_report.TableSet
-  pub was : c.part.tables ≡ Some tables
-  pub becomes : c.now.tables ≡ Some (with_table which names tables)
+  pub was : c.part.zones.tables ≡ Some tables
+  pub becomes : c.now.zones.tables ≡ Some (with_table which names tables)
   pub is_table : IsTable names
   pub asked : c.now_asked ≡ c.asked
-  pub reading : c.now.reading ≡ c.part.reading
+  pub reading : c.now.zones.reading ≡ c.part.zones.reading
 
 -- the node's user answers the newest transaction of a requester under a number, which asked the node's service
 pub record GivesAnswer {A : Type 0} (net number : ℕ) (c : Change A) : Type 0 where
@@ -130,7 +132,7 @@ pub record GivesAnswer {A : Type 0} (net number : ℕ) (c : Change A) : Type 0 w
   pub newest : Asked c.asked key.from key.tid (serving net number)
   pub few : count ≤ length packets
   pub asked : c.now_asked ≡ answered c.asked key.from key.tid packets
-  pub reading : c.now.reading ≡ c.part.reading
+  pub reading : c.now.zones.reading ≡ c.part.zones.reading
 
 -- the router answers the newest transaction of a requester under a number, which asked it for the page
 -- of one of its tables from a place on
@@ -140,7 +142,7 @@ pub record ServesPage {A : Type 0} (net number : ℕ) (c : Change A) : Type 0 wh
   pub act : c.act ≡ Gets which
   pub report : c.report ≡ report.Zones (zip_report.Served count)
   pub tables : Tables
-  pub are_tables : c.part.tables ≡ Some tables
+  pub are_tables : c.part.zones.tables ≡ Some tables
   pub requester : Address
   pub tid : ℕ
   pub newest : Asked c.asked requester tid (zones_at net number)
@@ -149,7 +151,7 @@ pub record ServesPage {A : Type 0} (net number : ℕ) (c : Change A) : Type 0 wh
   pub asks_from : RequestSpells (newest.transaction).user table start
   pub one : count ≤ 1
   pub asked : c.now_asked ≡ answered c.asked requester tid (page_answer (table_of table tables) start)
-  pub reading : c.now.reading ≡ c.part.reading
+  pub reading : c.now.zones.reading ≡ c.part.zones.reading
 
 -- the service receives what the newest transaction of a requester under a number asks of it
 pub record HandsUp {A : Type 0} (net number : ℕ) (c : Change A) : Type 0 where
@@ -163,7 +165,7 @@ pub record HandsUp {A : Type 0} (net number : ℕ) (c : Change A) : Type 0 where
   pub is_user : (newest.transaction).user ≡ user
   pub is_data : (newest.transaction).data_ ≡ bytes
   pub asked : c.now_asked ≡ c.asked
-  pub reading : c.now.reading ≡ c.part.reading
+  pub reading : c.now.zones.reading ≡ c.part.zones.reading
 
 -- the newest transaction of the node under a number ends with a response to it
 pub record Finishes {A : Type 0} (net number : ℕ) (c : Change A) : Type 0 where
@@ -176,14 +178,14 @@ pub record Finishes {A : Type 0} (net number : ℕ) (c : Change A) : Type 0 wher
   pub newest : transaction_of c.asked (asking net number) tid ≡ Some transaction
   pub response : IsResponse transaction packets
   pub asked : c.now_asked ≡ c.asked
-  pub reading : c.now.reading ≡ c.part.reading
+  pub reading : c.now.zones.reading ≡ c.part.zones.reading
 
 -- the packet that a reading asked for comes: it is of an answer to the newest transaction of its number
 pub record ComesToReading {A : Type 0} (net number : ℕ) (c : Change A) : Type 0 where
   pub which : ℕ
   pub act : c.act ≡ Gets which
   pub read : Reading
-  pub reads : c.part.reading ≡ Some read
+  pub reads : c.part.zones.reading ≡ Some read
   pub from : Address
   pub newest : Asked c.asked (asking net number) read.tid from
   pub place : ℕ
@@ -223,7 +225,7 @@ pub record EndsReading {A : Type 0} (net number : ℕ) (c : Change A) : Type 0 w
   pub came : ComesToReading net number c
   pub tells : Tells (came.read).which (came.read).names came.packet c.report
   pub asked : c.now_asked ≡ c.asked
-  pub reading : c.now.reading ≡ None
+  pub reading : c.now.zones.reading ≡ None
 
 -- the reading goes on: its packet has a page that is not the last, and the next one is asked for
 pub record TurnsPage {A : Type 0} (net number : ℕ) (c : Change A) : Type 0 where
@@ -236,7 +238,7 @@ pub record TurnsPage {A : Type 0} (net number : ℕ) (c : Change A) : Type 0 whe
   pub report : c.report ≡ report.Transactions (atp_report.Begun tid)
   pub asked : c.now_asked
       ≡ page_asked net number came.from (came.read).which ((came.read).names ++ page.names) tid ∷ c.asked
-  pub reading : c.now.reading
+  pub reading : c.now.zones.reading
       ≡ Some (record { which = (came.read).which; tid = tid; names = (came.read).names ++ page.names })
 
 -- the reading ends without an answer
@@ -245,9 +247,9 @@ pub record FailsReading {A : Type 0} (c : Change A) : Type 0 where
   pub act : c.act ≡ Fires time
   pub report : c.report ≡ report.Zones zip_report.Unanswered
   pub read : Reading
-  pub reads : c.part.reading ≡ Some read
+  pub reads : c.part.zones.reading ≡ Some read
   pub asked : c.now_asked ≡ c.asked
-  pub reading : c.now.reading ≡ None
+  pub reading : c.now.zones.reading ≡ None
 
 -- the kinds of steps of a node with this router
 pub data IsStep {A : Type 0} (net number : ℕ) (router : Option ℕ) (c : Change A) : Type 0 where

@@ -14,7 +14,7 @@ use Rattle.at_event.specs.declared.Report.{Report}
 use Rattle.at_event.specs.declared.Report.TheVariants as report
 use Rattle.at_event.specs.declared.zones.ZoneReport.TheVariants as zip_report
 use Rattle.at_node.specs.Nodes.{NodeState}
-use Rattle.at_transaction_socket.specs.Responders.{records_at}
+use Rattle.at_zone_socket.specs.AtpTimers.{records_at}
 
 -- ---- full tables
 
@@ -35,7 +35,7 @@ pub record IsPlaceOf (bytes : List ℕ) (place : Place) : Type 0 where
   pub there : place ≡ Records datagram.to.socket
 
 abbrev pub IsFull : NodeState → Place → Type 0
-IsFull n Asking = 32 ≤ length n.atp.requester.standing
+IsFull n Asking = 32 ≤ length n.atp.transactions.requester.standing
 IsFull n (Records socket) = 64 ≤ length (records_at n.atp socket)
 
 -- the table that is told to be full is full; of transactions it is the one in which the event may want a place

@@ -7,7 +7,7 @@ ghost use Rattle.at_atp_frame.specs.Frames.{spelled};
 ghost use Rattle.at_ddp.specs.Posts.{packet_at};
 ghost use Rattle.at_ddp.specs.Protocols.{atp_kind};
 ghost use Rattle.at_atp.specs.Network.{Happening, NoneHolds, Sent, is_fresh, after};
-ghost use Rattle.at_transaction_socket.specs.AtpParts.{asking};
+ghost use Rattle.at_transaction_socket.specs.TransactionSockets.{asking};
 ghost use Rattle.at_event.specs.Kinds.{IsCall};
 ghost use Rattle.at_node.specs.Numbers.{drawn_by, holds};
 ghost use Rattle.at_node.specs.Hearing.{Hears};
@@ -100,5 +100,6 @@ pub fn another_protocols_event_is_foreign<A: Allocator>()
 /// A transaction number that a node does not hold has no record at the node's responders.
 pub fn a_number_that_is_not_held_has_no_record()
     ensures { (net k tid : ℕ) (n : NodeState) → holds n k (Tid tid) ≡ false
-        → HoldsNo (asking net k) tid n.atp.service_responder × HoldsNo (asking net k) tid n.atp.zone_responder }
+        → HoldsNo (asking net k) tid n.atp.transactions.service_responder × HoldsNo (asking net k) tid
+        n.atp.zones.zone_responder }
 {}

@@ -1,12 +1,4 @@
-mod AnsweringLemmas
-mod AtOnceLemmas
-mod BeginLemmas
-mod FaultLemmas
-mod ListLemmas
-mod PageLemmas
-mod ReadingLemmas
 mod RequesterLemmas
-mod ResponderLemmas
+pub mod ResponderLemmas
 mod SentLemmas
-mod ServingLemmas
-mod TurningLemmas
+pub mod ServingLemmas

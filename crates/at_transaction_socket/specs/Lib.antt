@@ -1,9 +1,4 @@
-pub mod AtpHearing
-pub mod AtpParts
-pub mod Readings
 pub mod RequesterSocket
 pub mod Responders
 pub mod ServiceSocket
-pub mod Turning
-pub mod ZoneReading
-pub mod ZoneSocket
+pub mod TransactionSockets

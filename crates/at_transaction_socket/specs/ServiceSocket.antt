@@ -1,5 +1,5 @@
 -- The socket of a node's service: what its calls and its packets do.
-use Rattle.std.specs.Prelude.{◌≡◌, ℕ, if◌then◌else◌, List, [], length, find, Option, Some, None}
+use Rattle.std.specs.Prelude.{ℕ, if◌then◌else◌, List, [], length, find, Option, Some, None}
 use Rattle.at_ddp.specs.declared.address.Address.{Address}
 use Rattle.at_ddp.specs.Protocols.{atp_kind}
 use Rattle.at_atp_frame.specs.Fault.{number_of}
@@ -18,14 +18,15 @@ use Rattle.at_event.specs.declared.transactions.TransactionReport.TheVariants as
 use Rattle.at_event.specs.declared.seat.Seat.{Seat}
 use Rattle.at_event.specs.declared.service.Reply.{Reply}
 use Rattle.at_event.specs.declared.service.Reply.TheVariants as reply
-use Rattle.at_transaction_socket.specs.AtpParts.{AtpState, serving}
+use Rattle.at_transaction_socket.specs.TransactionSockets.{TransactionState, serving}
 use Rattle.at_event.specs.Outcomes.{Outcome, idle, sent_by, refused_as}
 use Rattle.at_transaction_socket.specs.Responders.{released_report}
 
 -- ---- the call
 
 -- the node's user answers a request that was delivered to the service
-abbrev pub answered_with : {A : Type 0} → Seat → AtpState → Key → List Packet → Option AtpFault → Outcome A AtpState
+abbrev pub answered_with : {A : Type 0} → Seat → TransactionState → Key → List Packet → Option AtpFault
+    → Outcome A TransactionState
 answered_with s a key packets (Some fault) = idle a (refused_as (number_of fault))
 answered_with s a key packets None = record {
   report = report.Transactions
@@ -35,12 +36,12 @@ answered_with s a key packets None = record {
       (spelled_all (asked_for (find (is_key key) a.service_responder) key packets));
 }
 
-abbrev pub answer_called : {A : Type 0} → Seat → AtpState → Key → List Packet → Outcome A AtpState
+abbrev pub answer_called : {A : Type 0} → Seat → TransactionState → Key → List Packet → Outcome A TransactionState
 answer_called s a key packets = answered_with s a key packets (answer_fault a.service_responder key packets)
 
 -- ---- packets
 
-abbrev pub service_taken : {A : Type 0} → Seat → AtpState → Taken → Report A → Outcome A AtpState
+abbrev pub service_taken : {A : Type 0} → Seat → TransactionState → Taken → Report A → Outcome A TransactionState
 service_taken s a t r = record {
   report = r;
   state = record a { service_responder = t.after };
@@ -57,35 +58,37 @@ sent_by_reply rs key reply.Later = []
 sent_by_reply rs key (reply.Now packets) = asked_for (find (is_key key) rs) key packets
 
 -- a new request is delivered to the service, which answers it now or later
-abbrev pub handed_up : {A : Type 0} → Seat → AtpState → Taken → Key → List ℕ → List ℕ → Reply A → Outcome A AtpState
+abbrev pub handed_up : {A : Type 0} → Seat → TransactionState → Taken → Key → List ℕ → List ℕ → Reply A
+    → Outcome A TransactionState
 handed_up s a t key user bytes r = record {
   report = report.Transactions (atp_report.Asked key user bytes);
   state = record a { service_responder = after_reply t.after key r };
   out = sent_by (serving s.net s.number) atp_kind (spelled_all (sent_by_reply t.after key r));
 }
 
-abbrev pub at_service : {A : Type 0} → Seat → AtpState → Taken → List ℕ → List ℕ → Reply A → Reception
-    → Outcome A AtpState
+abbrev pub at_service : {A : Type 0} → Seat → TransactionState → Taken → List ℕ → List ℕ → Reply A → Reception
+    → Outcome A TransactionState
 at_service s a t user bytes said reception.Ignored = service_taken s a t report.Ignored
 at_service s a t user bytes said (reception.Again count) = service_taken s a t report.Again
 at_service s a t user bytes said reception.Released = service_taken s a t (report.Transactions atp_report.Released)
 at_service s a t user bytes said (reception.New key) = handed_up s a t key user bytes said
 
 -- a request came for the service, which would reply this to a new one
-abbrev pub service_asked : {A : Type 0} → Seat → AtpState → Address → Content → List ℕ → List ℕ → Reply A
-    → Outcome A AtpState
+abbrev pub service_asked : {A : Type 0} → Seat → TransactionState → Address → Content → List ℕ → List ℕ → Reply A
+    → Outcome A TransactionState
 service_asked s a from frame user bytes said =
     if finds_no_place a.service_responder from frame then idle a (refused_as (number_of Full))
     else at_service s a (taken a.service_responder from frame) user bytes said
     (taken a.service_responder from frame).reception
 
 -- a release came for the service's socket
-abbrev pub service_released : {A : Type 0} → Seat → AtpState → Taken → Outcome A AtpState
+abbrev pub service_released : {A : Type 0} → Seat → TransactionState → Taken → Outcome A TransactionState
 service_released s a t = service_taken s a t (released_report t.reception)
 
--- a packet came for the service's socket: a response is ignored
-abbrev pub AtService : {A : Type 0} → Reply A → Seat → AtpState → Address → Content → Outcome A AtpState → Type 0
-AtService said s a from (Request mask xo timer tid user bytes) o =
-    o ≡ service_asked s a from (Request mask xo timer tid user bytes) user bytes said
-AtService said s a from (Response place eom sts tid user bytes) o = o ≡ idle a report.Ignored
-AtService said s a from (Release tid) o = o ≡ service_released s a (taken a.service_responder from (Release tid))
+-- what a packet does that came for the service's socket: a response is ignored
+abbrev pub service_heard : {A : Type 0} → Reply A → Seat → TransactionState → Address → Content
+    → Outcome A TransactionState
+service_heard said s a from (Request mask xo timer tid user bytes) =
+    service_asked s a from (Request mask xo timer tid user bytes) user bytes said
+service_heard said s a from (Response place eom sts tid user bytes) = idle a report.Ignored
+service_heard said s a from (Release tid) = service_released s a (taken a.service_responder from (Release tid))

@@ -1,4 +1,4 @@
-//! A packet of ATP that came to a node, with its sender and the seat of the node.
+//! A packet of ATP that came to a socket of a node, with its sender and the seat of the node.
 ghost use Rattle.std.specs.Prelude.{◌≡◌, IfOk, IfErr, IsOkAnd};
 ghost use Rattle.at_atp_frame.specs.Fault.{IsFirstFault};
 ghost use Rattle.at_atp_frame.specs.Frames.{Content, Spells, content};
@@ -8,19 +8,19 @@ use at_ddp::Address;
 use at_event::Seat;
 use at_packet::AtpPacket;
 
-// A packet that came to a socket of a node.
+/// A packet that came to a socket of a node.
 #[derive(Clone, Copy)]
-pub(crate) struct Incoming<'a> {
-    // Where the node stands.
-    pub(crate) seat: Seat,
-    // Who sent the packet.
-    pub(crate) from: Address,
-    pub(crate) frame: Frame<'a>,
+pub struct Incoming<'a> {
+    /// Where the node stands.
+    pub seat: Seat,
+    /// Who sent the packet.
+    pub from: Address,
+    pub frame: Frame<'a>,
 }
 
 impl<'a> Incoming<'a> {
-    // The packet of a datagram that came to a node.
-    pub(crate) fn of(seat: Seat, packet: &AtpPacket<'a>) -> Result<Incoming<'a>, AtpFault>
+    /// The packet of a datagram that came to a node.
+    pub fn of(seat: Seat, packet: &AtpPacket<'a>) -> Result<Incoming<'a>, AtpFault>
         ensures seat { IfOk result (λ p. p.seat ≡ seat) }
         ensures from { IfOk result (λ p. p.from ≡ packet.now.from) }
         ensures found { IfOk result (λ p. Spells packet.now.data_ (content p.frame)) }

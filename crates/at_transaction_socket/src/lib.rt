@@ -1,21 +1,19 @@
-//! The part of a node for transactions: the sockets that ask, that serve and that tell zones, and the reading of a zone
-//! table.
+//! The sockets of a node for transactions: the one that asks, for the node's user and for others like it, and the
+//! service's.
 #![tactic(auto)]
 
-mod atp_part;
 mod incoming;
-pub mod laws;
-mod page_taking;
 mod refusals;
 mod requester_socket;
 mod responders;
 mod service_socket;
 mod standing;
-mod zone_reading;
-mod zone_socket;
+mod transaction_socket;
+mod users;
 
-pub use atp_part::AtpPart;
+pub use incoming::Incoming;
 pub use refusals::refused;
-pub use requester_socket::{Question, REQUESTER_SOCKET, tid_of};
+pub use requester_socket::{Question, tid_of};
+pub use responders::{answer, hear, release};
 pub use service_socket::SERVICE_SOCKET;
-pub use zone_socket::ZONE_SOCKET;
+pub use transaction_socket::{REQUESTER_SOCKET, TransactionSocket};

@@ -1,43 +1,21 @@
-//! What the zone socket and the service's socket do alike, each with its own responder.
+//! What the sockets that answer do alike, each with its own responder.
 ghost use Rattle.std.specs.Prelude.{◌≡◌, ◌≢◌, ◌↔◌, ◌++◌, map, length, find, None, Err, true, IfOk, IfErr, IfSome, OnOk};
 ghost use Rattle.std.specs.Prelude.{OnErr, IsOk, IsErrOf, false};
 ghost use Rattle.at_ddp.specs.Protocols.{atp_kind};
 ghost use Rattle.at_atp_frame.specs.Frames.{content, spelled_all};
 ghost use Rattle.at_atp_responder.specs.Records.{taken, finds_no_place, after_answer, answer_fault, is_key, asked_for};
 ghost use Rattle.at_event.specs.Outcomes.{posted, sent_by};
-ghost use Rattle.at_transaction_socket.specs.Responders.{is_release, release_fired, released_report};
+ghost use Rattle.at_transaction_socket.specs.Responders.{is_release, released_report};
 ghost use Rattle.at_event.specs.Services.{is_asked};
 
-use crate::atp_part::AtpPart;
 use crate::incoming::Incoming;
-use crate::refusals::refused;
-use crate::service_socket::SERVICE_SOCKET;
-use crate::zone_socket::ZONE_SOCKET;
 use at_atp::{AtpFault, Key, Packet, Reception, Responder};
 use at_ddp::{ATP, Address, Datagrams, Outbox};
 use at_event::{Report, TransactionReport};
 use std::alloc::Allocator;
 
-impl<A: Allocator + Copy> AtpPart<A> {
-    /// Removes the record of a request, at the service's socket or at the zone socket.
-    pub fn expire(&mut self, own: u8, key: Key) -> Report<A>
-        ensures report { result ≡ (release_fired {A = A} self.old own key).report }
-        ensures state { self.new ≡ (release_fired {A = A} self.old own key).state }
-    {
-        let expired = match own {
-            SERVICE_SOCKET => self.service_responder.expire(key),
-            ZONE_SOCKET => self.zone_responder.expire(key),
-            _ => Err(AtpFault::NoSuch),
-        };
-        match expired {
-            Ok(()) => Report::Transactions(TransactionReport::Expired),
-            Err(fault) => refused(fault.number()),
-        }
-    }
-}
-
-// The responder takes a packet.
-pub(crate) fn hear<A: Allocator + Copy>(
+/// The responder takes a packet.
+pub fn hear<A: Allocator + Copy>(
     alloc: A,
     records: &mut Responder<A>,
     own: Address,
@@ -65,7 +43,8 @@ pub(crate) fn hear<A: Allocator + Copy>(
     reception
 }
 
-pub(crate) fn answer<A: Allocator + Copy>(
+/// Answers a request, and sends the packets that it asks for.
+pub fn answer<A: Allocator + Copy>(
     alloc: A,
     records: &mut Responder<A>,
     own: Address,
@@ -90,8 +69,8 @@ pub(crate) fn answer<A: Allocator + Copy>(
     answered
 }
 
-// Takes a release, which never runs out of memory.
-pub(crate) fn release<A: Allocator + Copy>(
+/// Takes a release, which never runs out of memory.
+pub fn release<A: Allocator + Copy>(
     alloc: A,
     records: &mut Responder<A>,
     own: Address,

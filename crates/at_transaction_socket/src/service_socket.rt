@@ -1,33 +1,31 @@
 //! The socket of the node's service: a new request is delivered to it, and answered at once or by a later call.
-ghost use Rattle.std.specs.Prelude.{◌≡◌, ◌++◌, [], map, find, None, Some, IfOk, OnOk, OnErr};
+ghost use Rattle.std.specs.Prelude.{◌≡◌, ◌++◌, [], map, find, None, Err, IfOk, IfSome, IsOk, OnOk, OnErr};
 ghost use Rattle.at_ddp.specs.Outbox.{Sends};
 ghost use Rattle.at_ddp.specs.Protocols.{atp_kind};
+ghost use Rattle.at_ddp.specs.Tables.{without_first};
 ghost use Rattle.at_atp_frame.specs.Frames.{content, spelled_all};
-ghost use Rattle.at_atp_responder.specs.Records.{record_fault, is_key};
-ghost use Rattle.at_transaction_socket.specs.AtpHearing as Heard;
-ghost use Rattle.at_transaction_socket.specs.AtpHearing.{AtSocket, HearsAt};
-ghost use Rattle.at_transaction_socket.specs.AtpParts.{AtpState};
-ghost use Rattle.at_event.specs.Outcomes.{Comes, IsStep, posted, sent_by};
+ghost use Rattle.at_atp_responder.specs.Records.{expiry_fault, record_fault, is_key};
+ghost use Rattle.at_transaction_socket.specs.TransactionSockets.{TransactionState, serving};
+ghost use Rattle.at_event.specs.Outcomes.{IsStep, posted, sent_by};
 ghost use Rattle.at_event.specs.Services.{Serves};
-ghost use Rattle.at_transaction_socket.specs.ServiceSocket.{answer_called, service_asked, after_reply, sent_by_reply};
+ghost use Rattle.at_transaction_socket.specs.ServiceSocket.{answer_called, service_asked, service_heard};
+ghost use Rattle.at_transaction_socket.specs.ServiceSocket.{after_reply, sent_by_reply};
 ghost use Rattle.at_event.specs.declared.seat.Seat.{Seat as Place};
 ghost use Rattle.at_event.specs.declared.service.Reply.{Reply as Said};
-ghost use Rattle.at_transaction_socket.specs.AtpParts.{serving};
 
-use crate::atp_part::AtpPart;
 use crate::incoming::Incoming;
 use crate::refusals::refused;
 use crate::responders::{answer, hear, release};
-use at_atp::{Frame, Key, Packet, Reception, Responder};
+use crate::transaction_socket::TransactionSocket;
+use at_atp::{AtpFault, Frame, Key, Packet, Reception, Responder};
 use at_ddp::{ATP, Address, Bytes, Datagrams, Outbox};
 use at_event::{Reply, Report, Seat, Service, TransactionReport};
-use at_packet::AtpPacket;
 use std::alloc::{AllocError, Allocator};
 
 /// The socket of the node's service.
 pub const SERVICE_SOCKET: u8 = 129;
 
-impl<A: Allocator + Copy> AtpPart<A> {
+impl<A: Allocator + Copy> TransactionSocket<A> {
     /// Answers a request that was delivered to the service.
     pub fn answer(
         &mut self,
@@ -53,34 +51,16 @@ impl<A: Allocator + Copy> AtpPart<A> {
         }
     }
 
-    // Takes a datagram for the service.
-    pub(crate) fn hear_request<S: Service<A>>(
-        &mut self,
-        seat: Seat,
-        service: &mut S,
-        packet: &AtpPacket<'_>,
-        out: &mut Datagrams<A>,
-    ) -> Report<A>
-        ensures { (said : Said A)
-            × Comes (HearsAt said seat self.old packet.now (Some Heard.Service)) self.old out.old.items
-            result self.new out.new.items
-            × Serves S.serves result said service.old service.new }
-    {
-        match Incoming::of(seat, packet) {
-            Ok(packet) => self.hear_at_service(service, &packet, out),
-            Err(fault) => refused(fault.number()),
-        }
-    }
-
-    fn hear_at_service<S: Service<A>>(
+    /// Takes a packet for the service.
+    pub fn hear_at_service<S: Service<A>>(
         &mut self,
         service: &mut S,
         packet: &Incoming<'_>,
         out: &mut Datagrams<A>,
     ) -> Report<A>
         ensures { (said : Said A)
-            × Comes (AtSocket said packet.now.seat self.old packet.now.from (Some Heard.Service)
-            (content packet.now.frame)) self.old out.old.items result self.new out.new.items
+            × IsStep (service_heard said packet.now.seat self.old packet.now.from (content packet.now.frame))
+            self.old out.old.items result self.new out.new.items
             × Serves S.serves result said service.old service.new }
     {
         let own = packet.seat.at(SERVICE_SOCKET);
@@ -101,6 +81,19 @@ impl<A: Allocator + Copy> AtpPart<A> {
             out,
         )
     }
+
+    /// Removes the record of a request for the service. This needs no memory.
+    pub fn expire(&mut self, key: Key) -> Result<(), AtpFault>
+        ensures ok { OnOk result (self.new ≡ record self.old {
+          service_responder = without_first (is_key key) self.old.service_responder;
+        }) }
+        ensures refuses { IfSome (expiry_fault (find (is_key key) self.old.service_responder))
+            (λ fault. result ≡ Err fault) }
+        ensures succeeds { expiry_fault (find (is_key key) self.old.service_responder) ≡ None → IsOk result }
+        ensures unchanged { OnErr result (self.new ≡ self.old) }
+    {
+        self.service_responder.expire(key)
+    }
 }
 
 // Takes a request for the service, with its user bytes and its data.
@@ -115,7 +108,7 @@ fn give_request<A: Allocator + Copy, S: Service<A>>(
     out: &mut Datagrams<A>,
 ) -> Report<A>
     ensures { (said : Said A)
-        × ((s : Place) (a : AtpState) → a.service_responder ≡ records.old → serving s.net s.number ≡ own →
+        × ((s : Place) (a : TransactionState) → a.service_responder ≡ records.old → serving s.net s.number ≡ own →
         IsStep (service_asked s a packet.now.from (content packet.now.frame) user bytes.now said) a out.old.items result
         (record a { service_responder = records.new }) out.new.items)
         × Serves S.serves result said service.old service.new }

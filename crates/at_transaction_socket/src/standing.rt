@@ -1,57 +1,44 @@
-//! What stands at the part: open transactions, records of requests, and the reading of a zone table.
-ghost use Rattle.std.specs.Prelude.{◌≡◌, ◌<◌, ◌≤◌, ◌||◌, length, is_some, slice_get, IfSome};
+//! What stands at the sockets for transactions: open transactions, and records of requests for the service.
+ghost use Rattle.std.specs.Prelude.{◌≡◌, ◌<◌, ◌≤◌, length, slice_get, IfSome, true, Some};
 ghost use Rattle.std.specs.List.{list_any};
-ghost use Rattle.at_atp_requester.specs.Requests.{IsRequester, next_number};
+ghost use Rattle.at_ddp.specs.declared.address.Address.{Address as From};
+ghost use Rattle.at_atp_frame.specs.Frames.{Content, number_of};
+ghost use Rattle.at_atp_requester.specs.Requests.{IsRequester, closing, finishes, heard, next_number};
 ghost use Rattle.at_atp_responder.specs.Keys.{AreApart};
 ghost use Rattle.at_atp_responder.specs.Records.{expiring_key, is_from};
-ghost use Rattle.at_transaction_socket.specs.Responders.{records_at};
-ghost use Rattle.at_zip.specs.Tables.{AreTables};
 
-use crate::atp_part::AtpPart;
-use crate::service_socket::SERVICE_SOCKET;
-use crate::zone_socket::ZONE_SOCKET;
+use crate::transaction_socket::TransactionSocket;
 use at_atp::Key;
 use at_atp::laws::{at_most_64_records_stand, no_two_records_are_of_one_request};
 use std::alloc::Allocator;
 
-impl<A: Allocator + Copy> AtpPart<A> {
-    /// At most 32 transactions are open, at most 64 records stand at each socket that answers, and each zone table has
-    /// at most 1,024 names. The body only visits them.
+impl<A: Allocator + Copy> TransactionSocket<A> {
+    /// At most 32 transactions are open, and at most 64 records stand. The body only visits them.
     pub fn limits(&self)
         ensures requester { IsRequester self.now.requester }
-        ensures zone_records { length self.now.zone_responder ≤ 64 }
-        ensures service_records { length self.now.service_responder ≤ 64 }
-        ensures tables { IfSome self.now.tables AreTables }
+        ensures records { length self.now.service_responder ≤ 64 }
     {
         self.requester.limits();
-        at_most_64_records_stand(&self.zone_responder);
         at_most_64_records_stand(&self.service_responder);
-        if let Some(tables) = &self.tables {
-            tables.limits();
-        }
     }
 
-    /// No two records of a socket are of one request. The body only visits them.
+    /// No two records are of one request. The body only visits them.
     pub fn keys_differ(&self)
-        ensures zones { AreApart self.now.zone_responder }
-        ensures services { AreApart self.now.service_responder }
+        ensures { AreApart self.now.service_responder }
     {
-        no_two_records_are_of_one_request(&self.zone_responder);
         no_two_records_are_of_one_request(&self.service_responder);
     }
 
-    /// Whether a zone table is being read.
-    pub fn reads_zones(&self) -> bool
-        ensures { result ≡ is_some self.now.reading }
-    {
-        self.reading.is_some()
-    }
+    /// The number that the next transaction will get, if this one is closed before; none if 32 are open. This needs no
+    /// memory.
+    pub fn next_tid(&self, closed: Option<u16>) -> Option<u16>
+        ensures number { result ≡ next_number (closing self.now.requester closed) }
 
-    /// The number that the next transaction will get; none if 32 are open. This needs no memory.
-    pub fn next_tid(&self) -> Option<u16>
-        ensures { result ≡ next_number self.now.requester }
+        // So it tells the number that a turn will draw.
+        ensures turn { (from : From) (f : Content) → finishes A self.now.requester from f ≡ true
+            → closed ≡ Some (number_of f) → result ≡ next_number (heard {A = A} self.now.requester from f).after }
     {
-        self.requester.next_number(None)
+        self.requester.next_number(closed)
     }
 
     /// How many transactions are open.
@@ -71,33 +58,23 @@ impl<A: Allocator + Copy> AtpPart<A> {
 
     /// Whether there is a record of a request that has this number and came from a node with this number.
     pub fn holds_number(&self, node: u8, tid: u16) -> bool
-        ensures { result ≡ (list_any (is_from node tid) self.now.zone_responder
-            || list_any (is_from node tid) self.now.service_responder) }
+        ensures { result ≡ list_any (is_from node tid) self.now.service_responder }
     {
-        self.zone_responder.holds_number(node, tid)
-            || self.service_responder.holds_number(node, tid)
+        self.service_responder.holds_number(node, tid)
     }
 
-    /// How many records stand at a socket that answers; none at any other.
-    pub fn record_count(&self, socket: u8) -> usize
-        ensures { result ≡ length (records_at self.now socket) }
+    /// How many records stand.
+    pub fn record_count(&self) -> usize
+        ensures { result ≡ length self.now.service_responder }
     {
-        match socket {
-            SERVICE_SOCKET => self.service_responder.record_count(),
-            ZONE_SOCKET => self.zone_responder.record_count(),
-            _ => 0,
-        }
+        self.service_responder.record_count()
     }
 
-    /// The key of the record at a place of a socket, if that record can expire. The first that came has place 0.
-    pub fn expiring_at(&self, socket: u8, place: usize) -> Option<Key>
-        requires { place < length (records_at self.now socket) }
-        ensures { IfSome (slice_get (records_at self.now socket) place) (λ r. result ≡ expiring_key r) }
+    /// The key of the record at a place, if that record can expire. The first that came has place 0.
+    pub fn expiring_at(&self, place: usize) -> Option<Key>
+        requires { place < length self.now.service_responder }
+        ensures { IfSome (slice_get self.now.service_responder place) (λ r. result ≡ expiring_key r) }
     {
-        match socket {
-            SERVICE_SOCKET => self.service_responder.expiring_at(place),
-            ZONE_SOCKET => self.zone_responder.expiring_at(place),
-            _ => None,
-        }
+        self.service_responder.expiring_at(place)
     }
 }

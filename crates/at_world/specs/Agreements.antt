@@ -11,7 +11,7 @@ use Rattle.at_event.specs.declared.Report.{Report}
 use Rattle.at_event.specs.declared.Report.TheVariants as report
 use Rattle.at_event.specs.declared.zones.ZoneReport.TheVariants as zip_report
 use Rattle.at_ddp.specs.declared.address.Address.{Address}
-use Rattle.at_transaction_socket.specs.AtpParts.{zones_at}
+use Rattle.at_zone_socket.specs.ZoneSockets.{zones_at}
 use Rattle.at_node.specs.Nodes.{NodeState}
 use Rattle.at_setup.specs.declared.event.Event.{Event}
 use Rattle.at_setup.specs.declared.event.Event.TheVariants as event

@@ -9,7 +9,8 @@ use Rattle.at_zip.specs.Reading.{BeginsTable}
 use Rattle.at_zip.specs.Tables.{Tables, table_of, with_table}
 use Rattle.at_zip.specs.Zones.{IsTable}
 use Rattle.at_zip.specs.declared.request.Which.{Which}
-use Rattle.at_transaction_socket.specs.AtpParts.{asking, serving, zones_at}
+use Rattle.at_transaction_socket.specs.TransactionSockets.{asking, serving}
+use Rattle.at_zone_socket.specs.ZoneSockets.{zones_at}
 use Rattle.at_event.specs.Kinds.{Kind, Atp}
 use Rattle.at_event.specs.declared.Call.TheVariants.{Transactions, Zones}
 use Rattle.at_event.specs.declared.transactions.TransactionCall.TheVariants.{Ask, Answer}

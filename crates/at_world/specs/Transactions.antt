@@ -7,7 +7,7 @@ use Rattle.at_ddp.specs.declared.address.Address.{Address}
 use Rattle.at_atp_frame.specs.Packets.{Packet}
 use Rattle.at_zip.specs.Reading.{place_after}
 use Rattle.at_zip.specs.declared.request.Which.{Which}
-use Rattle.at_transaction_socket.specs.AtpParts.{asking}
+use Rattle.at_transaction_socket.specs.TransactionSockets.{asking}
 
 -- What a transaction asks for: the page of a zone table from a place on, of which the first is 1; or what a node's user
 -- asks of a service, by the user bytes and the data of its call.

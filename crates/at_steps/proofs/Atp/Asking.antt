@@ -22,13 +22,14 @@ use Rattle.at_zip.specs.declared.request.Which.TheVariants.{All, Local}
 use Rattle.at_zip.specs.declared.fault.ZipFault.{ZipFault}
 use Rattle.at_event.specs.Kinds.{IsCall}
 use Rattle.at_node.specs.Numbers.{drawn_by}
-use Rattle.at_transaction_socket.specs.AtpParts.{Reading, asking, zones_at}
+use Rattle.at_zone_socket.specs.ZoneSockets.{Reading, zones_at}
+use Rattle.at_transaction_socket.specs.TransactionSockets.{asking}
 use Rattle.at_node.specs.Nodes.{with_atp, NodeState}
 use Rattle.at_event.specs.Outcomes.{over, idle, refused_as}
 use Rattle.at_transaction_socket.specs.RequesterSocket.{asked_as}
 use Rattle.at_event.specs.Seats.{at_socket}
-use Rattle.at_transaction_socket.specs.ZoneReading.{reading_begins, zones_called, page_transaction}
-use Rattle.at_transaction_socket.specs.ZoneSocket.{set_zones_called, table_set}
+use Rattle.at_zone_socket.specs.ZoneReading.{reading_begins, zones_called, page_transaction}
+use Rattle.at_zone_socket.specs.ZoneSocket.{set_zones_called, table_set}
 use Rattle.at_node.specs.declared.numbers.Draw.TheVariants.{Tid}
 use Rattle.at_event.specs.declared.Call.TheVariants.{Transactions, Zones}
 use Rattle.at_event.specs.declared.transactions.TransactionCall.TheVariants.{Ask}
@@ -43,6 +44,7 @@ use Rattle.at_steps.proofs.Atp.Beginning.{begun_happens}
 use Rattle.at_steps.proofs.Atp.Moves.{idle_happens, table_happens}
 use Rattle.at_steps.proofs.Atp.Standing.{IsIts}
 use Rattle.at_steps.proofs.Atp.Stories.{begins_match}
+use Rattle.at_zone_socket.specs.AtpParts.{with_reading, with_transactions, with_zones}
 
 -- ---- numbers that are open
 
@@ -108,17 +110,17 @@ module _ (A : Type 0) (laws : CallLaws A) (history : List Happening) (n : NodeSt
   -- ---- a zone table
 
   reading_is_open : (kind : Which) (router tid : ℕ)
-      → IsOpen (record n.atp {
-        requester = requests.begun n.atp.requester
+      → IsOpen (with_reading n.atp (Some (record { which = kind; tid = tid; names = [] }))
+      (record n.atp.transactions {
+        requester = requests.begun n.atp.transactions.requester
             (page_transaction (zones_at n.seat.net router) kind [] tid);
-        reading = Some (record { which = kind; tid = tid; names = [] });
-      })
+      }))
   reading_is_open kind router tid r is =
-      begun_is_open n.atp.requester (page_transaction (zones_at n.seat.net router) kind [] tid)
+      begun_is_open n.atp.transactions.requester (page_transaction (zones_at n.seat.net router) kind [] tid)
       (record { which = kind; tid = tid; names = [] }) r refl is
 
   reading_begun : (kind : Which) (router : ℕ) → n.seat.router ≡ Some router → (drawn : Option ℕ)
-      → next_number n.atp.requester ≡ drawn
+      → next_number n.atp.transactions.requester ≡ drawn
       → DrawsFree A history n (over (with_atp n) (reading_begins {A = A} n.seat n.atp kind router drawn)).report
       → IsIts A history n (Calls (Zones (zone.Read kind)))
       (over (with_atp n) (reading_begins n.seat n.atp kind router drawn))
@@ -135,7 +137,7 @@ module _ (A : Type 0) (laws : CallLaws A) (history : List Happening) (n : NodeSt
         few = lit≤ tt;
       })
       refl (reading_is_open kind router tid)
-      (begins_match A n.seat.net n.seat.number n.atp.tables (after A history) tid (zones_at n.seat.net router)
+      (begins_match A n.seat.net n.seat.number n.atp.zones.tables (after A history) tid (zones_at n.seat.net router)
       (request_user kind 1) [] 1 false 3 (Zones (zone.Read kind)) refl refl (ap next_number st.requester ∙ is_drawn))
       (Reads (record {
         which = kind;
@@ -156,14 +158,15 @@ module _ (A : Type 0) (laws : CallLaws A) (history : List Happening) (n : NodeSt
       (report.Refused 60) refl refl refl
   zones_call kind (Some router) (Some r) is free =
       idle_happens A history n (Calls (Zones (zone.Read kind))) st (report.Refused 63) refl refl refl
-  zones_call kind (Some router) None is free = reading_begun kind router is (next_number n.atp.requester) refl free
+  zones_call kind (Some router) None is free = reading_begun kind router is (next_number n.atp.transactions.requester)
+      refl free
 
   -- ---- the router's tables
 
-  table_call : (kind : Which) (names : List (List ℕ)) (tables : Tables) → n.atp.tables ≡ Some tables
+  table_call : (kind : Which) (names : List (List ℕ)) (tables : Tables) → n.atp.zones.tables ≡ Some tables
       → (fault : Option ZipFault) → table_fault names ≡ fault
       → IsIts A history n (Calls (Zones (zone.Set kind names)))
-      (over (with_atp n) (table_set n.atp tables kind names fault))
+      (over (with_atp n) (over (with_zones n.atp) (table_set n.atp.zones tables kind names fault)))
   table_call kind names tables has None none =
       table_happens A history n (Calls (Zones (zone.Set kind names))) st (with_table kind names tables)
       (laws.sets kind names tables (laws.tables names none) (st.has_tables tables has)) refl
@@ -187,9 +190,9 @@ module _ (A : Type 0) (laws : CallLaws A) (history : List Happening) (n : NodeSt
       refused (Some k) =
           idle_happens A history n (Calls (Zones (zone.Set kind names))) st (report.Refused k) refl refl refl
 
-  pub set_zones_call : (kind : Which) (names : List (List ℕ)) (tables : Option Tables) → n.atp.tables ≡ tables
+  pub set_zones_call : (kind : Which) (names : List (List ℕ)) (tables : Option Tables) → n.atp.zones.tables ≡ tables
       → IsIts A history n (Calls (Zones (zone.Set kind names)))
-      (over (with_atp n) (set_zones_called n.atp tables kind names))
+      (over (with_atp n) (over (with_zones n.atp) (set_zones_called n.atp.zones tables kind names)))
   set_zones_call kind names None has = idle_happens A history n (Calls (Zones (zone.Set kind names))) st
       (report.Refused 60) refl refl refl
   set_zones_call kind names (Some tables) has = table_call kind names tables has (table_fault names) refl
@@ -197,39 +200,42 @@ module _ (A : Type 0) (laws : CallLaws A) (history : List Happening) (n : NodeSt
   -- ---- asking
 
   -- a transaction that begins is not the one that reads the list
-  apart_from_reading : (tid : ℕ) → next_number n.atp.requester ≡ Some tid → (r : Reading) → n.atp.reading ≡ Some r
+  apart_from_reading : (tid : ℕ) → next_number n.atp.transactions.requester ≡ Some tid → (r : Reading)
+      → n.atp.zones.reading ≡ Some r
       → (tid == r.tid) ≡ false
   apart_from_reading tid drawn r is = go (tid == r.tid) refl
     where
       go : (b : Bool) → (tid == r.tid) ≡ b → b ≡ false
       go false e = refl
       go true e = absurd (true≢false
-          (sym (st.is_open r is) ∙ ap (has_number n.atp.requester.standing) (sym (eqb-true tid r.tid e))
-          ∙ laws.drawn n.atp.requester tid drawn))
+          (sym (st.is_open r is) ∙ ap (has_number n.atp.transactions.requester.standing) (sym (eqb-true tid r.tid e))
+          ∙ laws.drawn n.atp.transactions.requester tid drawn))
 
   module _ (node socket : ℕ) (user bytes : List ℕ) (wanted : ℕ) (xo : Bool) (retries : ℕ)
       (range : IsCall {A = A} (Transactions (Ask node socket user bytes wanted xo retries))) where
-    asked_for : length bytes ≤ 578 → (drawn : Option ℕ) → next_number n.atp.requester ≡ drawn
+    asked_for : length bytes ≤ 578 → (drawn : Option ℕ) → next_number n.atp.transactions.requester ≡ drawn
         → DrawsFree A history n (over (with_atp n)
-        (asked_as {A = A} n.seat n.atp (at_socket n.seat node socket) user bytes wanted xo retries drawn)).report →
+        (over (with_transactions n.atp) (asked_as {A = A} n.seat n.atp.transactions (at_socket n.seat node socket) user
+        bytes wanted xo retries drawn))).report →
         IsIts A history n (Calls (Transactions (Ask node socket user bytes wanted xo retries)))
-        (over (with_atp n) (asked_as n.seat n.atp (at_socket n.seat node socket) user bytes wanted xo retries
-        drawn))
+        (over (with_atp n) (over (with_transactions n.atp)
+        (asked_as n.seat n.atp.transactions (at_socket n.seat node socket) user bytes wanted xo retries
+        drawn)))
     asked_for few None is_drawn free =
         idle_happens A history n (Calls (Transactions (Ask node socket user bytes wanted xo retries))) st
         (report.Refused 14) refl refl refl
     asked_for few (Some tid) is_drawn free =
         begun_happens A history n (Calls (Transactions (Ask node socket user bytes wanted xo retries))) st
-        (at_socket n.seat node socket) user bytes wanted xo retries tid n.atp.reading is_drawn (free tid refl)
+        (at_socket n.seat node socket) user bytes wanted xo retries tid n.atp.zones.reading is_drawn (free tid refl)
         (record {
           who_fits = asking_fits;
           to_fits = there_fits node socket range.0 range.1;
           asks = record { four = range.2; user = range.3; bytes = range.4; fits = few };
           few = range.6;
         })
-        refl (λ r is. open_more n.atp.requester.standing
+        refl (λ r is. open_more n.atp.transactions.requester.standing
         (beginning tid (at_socket n.seat node socket) user bytes wanted xo retries ∷ []) r.tid (st.is_open r is))
-        (begins_match A n.seat.net n.seat.number n.atp.tables (after A history) tid
+        (begins_match A n.seat.net n.seat.number n.atp.zones.tables (after A history) tid
         (at_socket n.seat node socket) user bytes wanted xo retries
         (Transactions (Ask node socket user bytes wanted xo retries)) refl refl
         (ap next_number st.requester ∙ is_drawn))
@@ -261,17 +267,18 @@ module _ (A : Type 0) (laws : CallLaws A) (history : List Happening) (n : NodeSt
 
     pub ask_call : (b : Bool) → nat_lt 578 (length bytes) ≡ b
         → DrawsFree A history n (over (with_atp n)
-        (cond b (idle {A = A} n.atp (report.Refused 13))
-        (asked_as n.seat n.atp (at_socket n.seat node socket) user bytes wanted xo retries
-        (next_number n.atp.requester)))).report →
+        (over (with_transactions n.atp) (cond b (idle {A = A} n.atp.transactions (report.Refused 13))
+        (asked_as n.seat n.atp.transactions (at_socket n.seat node socket) user bytes wanted xo retries
+        (next_number n.atp.transactions.requester))))).report →
         IsIts A history n (Calls (Transactions (Ask node socket user bytes wanted xo retries)))
-        (over (with_atp n) (cond b (idle n.atp (report.Refused 13))
-        (asked_as n.seat n.atp (at_socket n.seat node socket) user bytes wanted xo retries
-        (next_number n.atp.requester))))
+        (over (with_atp n) (over (with_transactions n.atp)
+        (cond b (idle n.atp.transactions (report.Refused 13))
+        (asked_as n.seat n.atp.transactions (at_socket n.seat node socket) user bytes wanted xo retries
+        (next_number n.atp.transactions.requester)))))
     ask_call true e free =
         idle_happens A history n (Calls (Transactions (Ask node socket user bytes wanted xo retries))) st
         (report.Refused 13) refl refl refl
-    ask_call false e free = asked_for (few_bytes (length bytes) e) (next_number n.atp.requester) refl free
+    ask_call false e free = asked_for (few_bytes (length bytes) e) (next_number n.atp.transactions.requester) refl free
       where
         few_bytes : (len : ℕ) → nat_lt 578 len ≡ false → len ≤ 578
         few_bytes len h = grind (arith, nat_tests)

@@ -16,7 +16,9 @@ use Rattle.at_ddp.specs.Protocols.{atp_kind}
 use Rattle.at_steps.proofs.Entries.{entries_of}
 use Rattle.at_atp.specs.Network.{Network, Sent, Happening, Begins, Turns, ComesInTime, NoneHolds, ending, number_after}
 use Rattle.at_atp.specs.Network.{after, done, with_requester, new_transaction, IsTimely}
-use Rattle.at_transaction_socket.specs.AtpParts.{AtpState, Reading, asking}
+use Rattle.at_zone_socket.specs.AtpParts.{AtpState, with_reading}
+use Rattle.at_zone_socket.specs.ZoneSockets.{Reading}
+use Rattle.at_transaction_socket.specs.TransactionSockets.{asking}
 use Rattle.at_node.specs.Numbers.{drawn_by}
 use Rattle.at_node.specs.Nodes.{NodeState, with_atp}
 use Rattle.at_event.specs.Outcomes.{sent_by}
@@ -47,7 +49,7 @@ module _ (A : Type 0) (history : List Happening) (n : NodeState) (act : Act A)
 
   -- the part after a transaction began at this requester, with this reading
   abbrev began : Requests → requests.Transaction → Option Reading → AtpState
-  began x t reading = record n.atp { requester = requests.begun x t; reading = reading }
+  began x t reading = with_reading n.atp reading (record n.atp.transactions { requester = requests.begun x t })
 
   abbrev told : requests.Transaction → Report A
   told t = report.Transactions (atp_report.Begun t.tid)
@@ -55,7 +57,7 @@ module _ (A : Type 0) (history : List Happening) (n : NodeState) (act : Act A)
   begins_so : (h : Happening) (now : Network) (x : Requests) (t : requests.Transaction) (reading : Option Reading)
       → Differs (after A history) now who x → done A (after A history) h ≡ network.begun now who t
       → IsTimely A (after A history) h → IsInRange h → (t.to).net ≡ n.seat.net → IsOpen (began x t reading)
-      → Matches n.seat.net n.seat.number n.atp.tables (after A history) h act (told t)
+      → Matches n.seat.net n.seat.number n.atp.zones.tables (after A history) h act (told t)
       → StepTo A history n act (new_transaction who t ∷ (after A history).asked) (began x t reading) (told t)
       → IsIts A history n act (record {
         report = told t;
@@ -92,35 +94,31 @@ module _ (A : Type 0) (history : List Happening) (n : NodeState) (act : Act A)
   -- ---- a transaction begins
 
   pub begun_happens : (to : Address) (user bytes : List ℕ) (wanted : ℕ) (xo : Bool) (retries tid : ℕ)
-      (reading : Option Reading) → next_number n.atp.requester ≡ Some tid
+      (reading : Option Reading) → next_number n.atp.transactions.requester ≡ Some tid
       → NoneHolds (after A history).responders (asking n.seat.net n.seat.number) tid →
       IsAsking (asking n.seat.net n.seat.number) to user bytes wanted → to.net ≡ n.seat.net
-      → IsOpen (record n.atp {
-        requester = requests.begun n.atp.requester
-            (beginning tid to user bytes wanted xo retries);
-        reading = reading;
-      }) →
-      Matches n.seat.net n.seat.number n.atp.tables (after A history)
+      → IsOpen (with_reading n.atp reading (record n.atp.transactions
+      { requester = requests.begun n.atp.transactions.requester (beginning tid to user bytes wanted xo retries) })) →
+      Matches n.seat.net n.seat.number n.atp.zones.tables (after A history)
       (Begins (asking n.seat.net n.seat.number) to user bytes wanted xo retries) act
       (report.Transactions (atp_report.Begun tid)) →
       StepTo A history n act (new_transaction (asking n.seat.net n.seat.number)
       (beginning tid to user bytes wanted xo retries) ∷ (after A history).asked)
-      (record n.atp {
-        requester = requests.begun n.atp.requester (beginning tid to user bytes wanted xo retries);
-        reading = reading;
-      }) (report.Transactions (atp_report.Begun tid)) →
+      (with_reading n.atp reading (record n.atp.transactions
+      { requester = requests.begun n.atp.transactions.requester (beginning tid to user bytes wanted xo retries) }))
+      (report.Transactions (atp_report.Begun tid)) →
       IsIts A history n act (record {
         report = report.Transactions (atp_report.Begun tid);
-        state = with_atp n (record
-            n.atp {
-              requester = requests.begun n.atp.requester (beginning tid to user bytes wanted xo retries);
-              reading = reading;
-            });
+        state = with_atp n (with_reading n.atp reading
+            (record n.atp.transactions {
+              requester = requests.begun n.atp.transactions.requester
+                  (beginning tid to user bytes wanted xo retries);
+            }));
         out = sent_by (asking n.seat.net n.seat.number) atp_kind
             (spelled_all ((to, request_by (beginning tid to user bytes wanted xo retries)) ∷ []));
       })
   begun_happens to user bytes wanted xo retries tid reading drawn free range on_net opened matches step =
-      begins_so (Begins who to user bytes wanted xo retries) (after A history) n.atp.requester
+      begins_so (Begins who to user bytes wanted xo retries) (after A history) n.atp.transactions.requester
       (beginning tid to user bytes wanted xo retries) reading
       (record {
         event = refl;
@@ -144,10 +142,10 @@ module _ (A : Type 0) (history : List Happening) (n : NodeState) (act : Act A)
 
   module _ (which : ℕ) (s : Sent) (user : List ℕ) (times tid : ℕ)
       (was_sent : packet_at (after A history).sent which ≡ Some s) (to_is : s.to ≡ asking n.seat.net n.seat.number)
-      (ends : finishes A n.atp.requester s.from s.packet ≡ true)
-      (drawn : next_number (heard {A = A} n.atp.requester s.from s.packet).after ≡ Some tid)
-      (nothing : (heard {A = A} n.atp.requester s.from s.packet).sent ≡ []) where
-    its : (after A history).requesters s.to ≡ n.atp.requester
+      (ends : finishes A n.atp.transactions.requester s.from s.packet ≡ true)
+      (drawn : next_number (heard {A = A} n.atp.transactions.requester s.from s.packet).after ≡ Some tid)
+      (nothing : (heard {A = A} n.atp.transactions.requester s.from s.packet).sent ≡ []) where
+    its : (after A history).requesters s.to ≡ n.atp.transactions.requester
     its = ap (after A history).requesters to_is ∙ st.requester
 
     abbrev next : requests.Transaction
@@ -162,7 +160,7 @@ module _ (A : Type 0) (history : List Happening) (n : NodeState) (act : Act A)
 
     turned : done A (after A history) (Turns which user times)
         ≡ network.begun (with_requester (after A history) (asking n.seat.net n.seat.number)
-        (heard {A = A} n.atp.requester s.from s.packet).after []) (asking n.seat.net n.seat.number)
+        (heard {A = A} n.atp.transactions.requester s.from s.packet).after []) (asking n.seat.net n.seat.number)
         (beginning tid s.from user [] 1 false times)
     turned =
         ap (network.turns A (after A history) user times) it_ends
@@ -171,48 +169,48 @@ module _ (A : Type 0) (history : List Happening) (n : NodeState) (act : Act A)
         (heard {A = A} (its i) s.from s.packet).sent) (to_is i) (beginning tid s.from user [] 1 false times))
         ∙ ap (λ l. network.begun
         (with_requester (after A history) (asking n.seat.net n.seat.number)
-        (heard {A = A} n.atp.requester s.from s.packet).after l) (asking n.seat.net n.seat.number)
+        (heard {A = A} n.atp.transactions.requester s.from s.packet).after l) (asking n.seat.net n.seat.number)
         (beginning tid s.from user [] 1 false times)) nothing
 
     pub turned_happens : (reading : Option Reading) → ComesInTime (after A history) which
         → NoneHolds (after A history).responders (asking n.seat.net n.seat.number) tid
         → IsPacket (record { user = user; data_ = [] }) → (s.from).net ≡ n.seat.net →
-        IsOpen (record n.atp {
-          requester = requests.begun (heard {A = A} n.atp.requester s.from s.packet).after
+        IsOpen (with_reading n.atp reading (record n.atp.transactions {
+          requester = requests.begun (heard {A = A} n.atp.transactions.requester s.from s.packet).after
               (beginning tid s.from user [] 1 false times);
-          reading = reading;
-        }) →
-        Matches n.seat.net n.seat.number n.atp.tables (after A history) (Turns which user times) act
+        })) →
+        Matches n.seat.net n.seat.number n.atp.zones.tables (after A history) (Turns which user times) act
         (report.Transactions (atp_report.Begun tid)) →
         StepTo A history n act (new_transaction (asking n.seat.net n.seat.number)
         (beginning tid s.from user [] 1 false times) ∷ (after A history).asked)
-        (record n.atp {
-          requester = requests.begun (heard {A = A} n.atp.requester s.from s.packet).after
+        (with_reading n.atp reading (record n.atp.transactions {
+          requester = requests.begun (heard {A = A} n.atp.transactions.requester s.from s.packet).after
               (beginning tid s.from user [] 1 false times);
-          reading = reading;
-        }) (report.Transactions (atp_report.Begun tid)) →
+        })) (report.Transactions (atp_report.Begun tid)) →
         IsIts A history n act (record {
           report = report.Transactions (atp_report.Begun tid);
-          state = with_atp n (record
-              n.atp {
-                requester = requests.begun (heard {A = A} n.atp.requester s.from s.packet).after
+          state = with_atp n (with_reading n.atp reading
+              (record n.atp.transactions {
+                requester = requests.begun
+                    (heard {A = A} n.atp.transactions.requester s.from s.packet).after
                     (beginning tid s.from user [] 1 false times);
-                reading = reading;
-              });
+              }));
           out = sent_by (asking n.seat.net n.seat.number) atp_kind
               (spelled_all ((s.from, request_by (beginning tid s.from user [] 1 false times)) ∷ []));
         })
     turned_happens reading in_time free asks on_net opened matches step =
         begins_so (Turns which user times)
-        (with_requester (after A history) who (heard {A = A} n.atp.requester s.from s.packet).after [])
-        (heard {A = A} n.atp.requester s.from s.packet).after next reading
+        (with_requester (after A history) who (heard {A = A} n.atp.transactions.requester s.from s.packet).after [])
+        (heard {A = A} n.atp.transactions.requester s.from s.packet).after next reading
         (record {
           event = refl;
           requesters = λ f at. put_twice (after A history).requesters who
-              (heard {A = A} n.atp.requester s.from s.packet).after
-              (f (put (after A history).requesters who (heard {A = A} n.atp.requester s.from s.packet).after who)) at
+              (heard {A = A} n.atp.transactions.requester s.from s.packet).after
+              (f (put (after A history).requesters who (heard {A = A} n.atp.transactions.requester s.from
+              s.packet).after who)) at
               ∙ ap (λ r. put (after A history).requesters who (f r) at)
-              (put_here (after A history).requesters who (heard {A = A} n.atp.requester s.from s.packet).after);
+              (put_here (after A history).requesters who
+              (heard {A = A} n.atp.transactions.requester s.from s.packet).after);
           responders = refl;
           sent = append-nil (after A history).sent;
           drawn = refl;

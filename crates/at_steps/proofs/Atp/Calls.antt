@@ -18,7 +18,7 @@ use Rattle.at_ddp.specs.Posts.{put, stamped}
 use Rattle.at_atp.specs.Network.{Network, Happening, after, done}
 use Rattle.at_atp.specs.Transactions.{Asked}
 use Rattle.at_event.specs.Kinds.{IsCall}
-use Rattle.at_transaction_socket.specs.AtpParts.{serving}
+use Rattle.at_transaction_socket.specs.TransactionSockets.{serving}
 use Rattle.at_event.specs.Kinds.{kind_of_call}
 use Rattle.at_node.specs.Nodes.{with_atp, NodeState, called}
 use Rattle.at_event.specs.Outcomes.{over, idle, refused_as}
@@ -37,6 +37,7 @@ use Rattle.at_steps.proofs.Atp.Below.{CallLaws}
 use Rattle.at_steps.proofs.Atp.Moves.{idle_happens, gave_happens}
 use Rattle.at_steps.proofs.Atp.Standing.{IsIts, with_service}
 use Rattle.at_steps.proofs.Atp.Stories.{answers_match}
+use Rattle.at_zone_socket.specs.AtpParts.{with_transactions}
 
 -- a refusal by the transaction protocol
 pub refused_happens : (A : Type 0) (history : List Happening) (n : NodeState) (act : Act A)
@@ -83,30 +84,31 @@ module _ (A : Type 0) (laws : CallLaws A) (history : List Happening) (n : NodeSt
     here = serving n.seat.net n.seat.number
 
     abbrev now : List Record
-    now = after_answer n.atp.service_responder key packets
+    now = after_answer n.atp.transactions.service_responder key packets
 
     abbrev sent : List (Address × Content)
-    sent = asked_for (find (is_key key) n.atp.service_responder) key packets
+    sent = asked_for (find (is_key key) n.atp.transactions.service_responder) key packets
 
-    is_done : answer_fault n.atp.service_responder key packets ≡ None
+    is_done : answer_fault n.atp.transactions.service_responder key packets ≡ None
         → done A (after A history) (network.Answers here key packets)
         ≡ network.answers (after A history) here key packets None
     is_done free = ap (λ f. network.answers (after A history) here key packets f)
         (ap (λ rs. answer_fault rs key packets) st.service ∙ free)
 
-    answer_call : (fault : Option AtpFault) → answer_fault n.atp.service_responder key packets ≡ fault
+    answer_call : (fault : Option AtpFault) → answer_fault n.atp.transactions.service_responder key packets ≡ fault
         → IsIts A history n (Calls (Transactions (Answer key packets)))
-        (over (with_atp n) (answered_with n.seat n.atp key packets fault))
+        (over (with_atp n) (over (with_transactions n.atp) (answered_with n.seat n.atp.transactions key packets fault)))
     answer_call (Some fault) is =
         refused_happens A history n (Calls (Transactions (Answer key packets))) st (number_of fault)
     answer_call None is =
-        let found = found_record n.atp.service_responder key packets is in
+        let found = found_record n.atp.transactions.service_responder key packets is in
         let gives = laws.answers history st.timely in
         let held = ap (find (is_key key)) st.service ∙ found.0.1 in
         let asked : Asked (after A history).asked key.from key.tid here = gives.recorded here key found.0.0 held in
         let done_is = is_done is in
         gave_happens A history n (Calls (Transactions (Answer key packets))) st (network.Answers here key packets)
-        (report.Transactions (atp_report.Answered (length sent))) here key.from key.tid packets n.atp.zone_responder now
+        (report.Transactions (atp_report.Answered (length sent))) here key.from key.tid packets
+        n.atp.zones.zone_responder now
         sent
         tt (serving_fits, packets_fit packets found.1 range.1)
         (ap (λ (x : Network). x.event) done_is)
@@ -119,7 +121,7 @@ module _ (A : Type 0) (laws : CallLaws A) (history : List Happening) (n : NodeSt
         (asked_for (find (is_key key) rs) key packets)) st.service)
         (ap (λ (x : Network). x.drawn) done_is)
         (ap (λ (x : Network). x.asked) done_is) refl
-        (answers_match A n.seat.net n.seat.number n.atp.tables (after A history) here key packets (length sent)
+        (answers_match A n.seat.net n.seat.number n.atp.zones.tables (after A history) here key packets (length sent)
         (ap (λ (x : Network). x.asked) done_is))
         (steps.Answers (record {
           key = key;
@@ -128,7 +130,7 @@ module _ (A : Type 0) (laws : CallLaws A) (history : List Happening) (n : NodeSt
           act = refl;
           report = refl;
           newest = asked;
-          few = laws.few (find (is_key key) n.atp.service_responder) key packets;
+          few = laws.few (find (is_key key) n.atp.transactions.service_responder) key packets;
           asked = refl;
           reading = refl;
         }))
@@ -136,12 +138,12 @@ module _ (A : Type 0) (laws : CallLaws A) (history : List Happening) (n : NodeSt
   pub call_happens : (call : Call A) → IsCall call → is_atp (kind_of_call call) ≡ true
       → DrawsFree A history n (called n call).report → IsIts A history n (Calls call) (called n call)
   call_happens (Zones (zone.Read kind)) range own free =
-      zones_call A laws history n st kind n.seat.router n.atp.reading refl free
+      zones_call A laws history n st kind n.seat.router n.atp.zones.reading refl free
   call_happens (Zones (zone.Set kind names)) range own free =
-      set_zones_call A laws history n st kind names n.atp.tables refl
+      set_zones_call A laws history n st kind names n.atp.zones.tables refl
   call_happens (Transactions (Ask node socket user bytes wanted xo retries)) range own free =
       ask_call A laws history n st node socket
       user bytes wanted xo retries range (nat_lt 578 (length bytes)) refl free
   call_happens (Transactions (Answer key packets)) range own free =
-      answer_call key packets range (answer_fault n.atp.service_responder key packets) refl
+      answer_call key packets range (answer_fault n.atp.transactions.service_responder key packets) refl
   call_happens other range own free = absurd (cc)

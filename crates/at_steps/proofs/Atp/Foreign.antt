@@ -3,7 +3,7 @@ use Rattle.std.proofs.Common.{◌≡◌, false, refl}
 use Rattle.std.specs.Prelude.{◌==◌}
 use Rattle.std.proofs.lemmas.Bool.{true≢false}
 use Rattle.at_ddp.specs.Protocols.{atp_kind}
-use Rattle.at_transaction_socket.specs.AtpParts.{AtpState}
+use Rattle.at_zone_socket.specs.AtpParts.{AtpState}
 use Rattle.at_event.specs.Kinds.{Kind, Atp}
 use Rattle.at_node.specs.Nodes.{NodeState}
 use Rattle.at_session.specs.Sessions.{SessionState}

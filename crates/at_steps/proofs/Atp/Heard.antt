@@ -16,12 +16,14 @@ use Rattle.at_atp.specs.Network as network
 use Rattle.at_ddp.specs.Posts.{packet_at}
 use Rattle.at_atp.specs.Network.{Sent, Happening, Hears, NoneHolds, after, done, with_requester, is_fresh}
 use Rattle.at_atp.specs.Transactions.{Transaction, transaction_of, Asked, IsPart, IsResponse}
-use Rattle.at_transaction_socket.specs.AtpParts.{AtpState, asking, after_heard}
+use Rattle.at_zone_socket.specs.AtpParts.{AtpState, with_transactions}
+use Rattle.at_transaction_socket.specs.TransactionSockets.{asking, after_heard}
 use Rattle.at_node.specs.Numbers.{drawn_by}
 use Rattle.at_node.specs.Nodes.{with_atp, NodeState}
 use Rattle.at_event.specs.Outcomes.{over, Outcome}
-use Rattle.at_transaction_socket.specs.RequesterSocket.{AtRequester, reported_other}
-use Rattle.at_transaction_socket.specs.ZoneReading.{ReadsPage, is_page, is_reading, names_read}
+use Rattle.at_zone_socket.specs.AtpHearing.{AtRequester}
+use Rattle.at_transaction_socket.specs.RequesterSocket.{reported_other}
+use Rattle.at_zone_socket.specs.ZoneReading.{ReadsPage, is_page, is_reading, names_read}
 use Rattle.at_node.specs.declared.numbers.Draw.TheVariants.{Tid}
 use Rattle.at_event.specs.declared.Report.{Report}
 use Rattle.at_event.specs.declared.Report.TheVariants as report
@@ -77,9 +79,9 @@ module _ (A : Type 0) (laws : HearingLaws A) (history : List Happening) (n : Nod
 
   -- what the requester makes of it
   abbrev taken : requests.Heard A
-  taken = heard {A = A} n.atp.requester s.from came_in
+  taken = heard {A = A} n.atp.transactions.requester s.from came_in
 
-  its_requester : (after A history).requesters s.to ≡ n.atp.requester
+  its_requester : (after A history).requesters s.to ≡ n.atp.transactions.requester
   its_requester = ap (after A history).requesters to_is ∙ st.requester
 
   is_done : done A (after A history) (Hears which)
@@ -104,13 +106,14 @@ module _ (A : Type 0) (laws : HearingLaws A) (history : List Happening) (n : Nod
       )
 
   -- if the transaction reads, and the packet ends it, it is the page that the reading asked for
-  ends_it : is_reading n.atp.reading tid ≡ true → is_finished taken.step ≡ true
+  ends_it : is_reading n.atp.zones.reading tid ≡ true → is_finished taken.step ≡ true
       → is_page A n.atp s.from came_in ≡ true
   ends_it mine ended =
-      let it = reads_it n.atp.reading tid mine in
-      let opened : has_number n.atp.requester.standing tid ≡ true = ap (has_number n.atp.requester.standing) (sym it.2)
+      let it = reads_it n.atp.zones.reading tid mine in
+      let opened : has_number n.atp.transactions.requester.standing tid ≡ true = ap
+      (has_number n.atp.transactions.requester.standing) (sym it.2)
       ∙ st.is_open it.0 it.1 in
-      let e = entry_of n.atp.requester.standing tid opened in
+      let e = entry_of n.atp.transactions.requester.standing tid opened in
       let gives = laws.answers history st.timely in
       let stands = gives.standing (asking n.seat.net n.seat.number) tid e.0
       (ap (λ (r : Requests). find (is_numbered tid) r.standing) st.requester ∙ e.1) in
@@ -122,43 +125,49 @@ module _ (A : Type 0) (laws : HearingLaws A) (history : List Happening) (n : Nod
       let once : (e.0).xo ≡ false = sym stands.4
       ∙ st.at_least_once it.0 it.1 a.transaction
       (ap (transaction_of (after A history).asked (asking n.seat.net n.seat.number)) it.2 ∙ a.newest) in
-      let found : is_at_least_once (find (is_of tid s.from) n.atp.requester.standing)
-      ≡ true = ap is_at_least_once (narrowed n.atp.requester.standing tid s.from e.0 e.1 to) ∙ ap not once in
+      let found : is_at_least_once (find (is_of tid s.from) n.atp.transactions.requester.standing)
+      ≡ true = ap is_at_least_once (narrowed n.atp.transactions.requester.standing tid s.from e.0 e.1 to) ∙ ap not once
+      in
       λ i. mine i && (found i && ended i)
     where
       some_transaction : {x y : Transaction} → Some x ≡ Some y → x ≡ y
       some_transaction h = cc
 
   -- a packet that is no page leaves a reading open
-  away : is_page A n.atp s.from came_in ≡ false → is_finished taken.step ≡ true → is_reading n.atp.reading tid ≡ false
-  away other ended = go (is_reading n.atp.reading tid) refl
+  away : is_page A n.atp s.from came_in ≡ false → is_finished taken.step ≡ true → is_reading n.atp.zones.reading tid
+      ≡ false
+  away other ended = go (is_reading n.atp.zones.reading tid) refl
     where
-      go : (b : Bool) → is_reading n.atp.reading tid ≡ b → b ≡ false
+      go : (b : Bool) → is_reading n.atp.zones.reading tid ≡ b → b ≡ false
       go false e = refl
       go true e = absurd (false≢true (sym other ∙ ends_it e ended))
 
-  goes_on : (is_finished taken.step ≡ true → is_reading n.atp.reading tid ≡ false)
-      → IsOpen (record n.atp { requester = taken.after })
-  goes_on apart r reads = laws.heard_stays n.atp.requester s.from came_in r.tid
-      (st.is_open r reads) (λ finished. reads_another n.atp.reading tid r (apart finished) reads)
+  goes_on : (is_finished taken.step ≡ true → is_reading n.atp.zones.reading tid ≡ false)
+      → IsOpen (with_transactions n.atp (record n.atp.transactions { requester = taken.after }))
+  goes_on apart r reads = laws.heard_stays n.atp.transactions.requester s.from came_in r.tid
+      (st.is_open r reads) (λ finished. reads_another n.atp.zones.reading tid r (apart finished) reads)
 
   -- a step of a transaction that goes on, or of another than the reading's
   steps_so : (r : Report A) (o : Outcome A AtpState) → drawn_by r ≡ None
-      → Matches n.seat.net n.seat.number n.atp.tables (after A history) (Hears which) (Gets which) r
-      → (is_finished taken.step ≡ true → is_reading n.atp.reading tid ≡ false)
-      → StepTo A history n (Gets which) (after A history).asked (record n.atp { requester = taken.after }) r
-      → o ≡ after_heard n.seat n.atp taken r n.atp.reading → IsIts A history n (Gets which) (over (with_atp n) o)
+      → Matches n.seat.net n.seat.number n.atp.zones.tables (after A history) (Hears which) (Gets which) r
+      → (is_finished taken.step ≡ true → is_reading n.atp.zones.reading tid ≡ false)
+      → StepTo A history n (Gets which) (after A history).asked
+      (with_transactions n.atp (record n.atp.transactions { requester = taken.after })) r
+      → o ≡ over (with_transactions n.atp) (after_heard n.seat n.atp.transactions taken r) → IsIts A history n
+      (Gets which) (over (with_atp n) o)
   steps_so r o none matches apart step is = subst (λ p. IsIts A history n (Gets which) (over (with_atp n) p)) (sym is)
-      (requester_happens A history n (Gets which) st (Hears which) taken.after n.atp.reading taken.sent r
+      (requester_happens A history n (Gets which) st (Hears which) taken.after n.atp.zones.reading taken.sent r
       (in_time (after A history) which s was_sent fresh) tt is_done none (goes_on apart) matches step)
 
   -- a step with a report that says nothing of transactions
   plainly : (r : Report A) (o : Outcome A AtpState) → drawn_by r ≡ None → is_quiet r (Gets which) ≡ true
       → (x : Stepped A) → taken.step ≡ x → is_finished x ≡ false
-      → StepTo A history n (Gets which) (after A history).asked (record n.atp { requester = taken.after }) r
-      → o ≡ after_heard n.seat n.atp taken r n.atp.reading → IsIts A history n (Gets which) (over (with_atp n) o)
+      → StepTo A history n (Gets which) (after A history).asked
+      (with_transactions n.atp (record n.atp.transactions { requester = taken.after })) r
+      → o ≡ over (with_transactions n.atp) (after_heard n.seat n.atp.transactions taken r) → IsIts A history n
+      (Gets which) (over (with_atp n) o)
   plainly r o none quiet x is goes step at =
-      steps_so r o none (hears_matches A n.seat.net n.seat.number n.atp.tables (after A history) which
+      steps_so r o none (hears_matches A n.seat.net n.seat.number n.atp.zones.tables (after A history) which
       (Gets which) r quiet) (λ finished. absurd (false≢true (sym goes ∙ ap is_finished (sym is) ∙ finished))) step at
 
   -- ---- the end of another transaction
@@ -179,7 +188,7 @@ module _ (A : Type 0) (laws : HearingLaws A) (history : List Happening) (n : Nod
 
   -- a packet that no reading asked for
   other_happens : is_page A n.atp s.from came_in ≡ false → (x : Stepped A) (o : Outcome A AtpState) → taken.step ≡ x
-      → o ≡ after_heard n.seat n.atp taken (reported_other tid x) n.atp.reading
+      → o ≡ over (with_transactions n.atp) (after_heard n.seat n.atp.transactions taken (reported_other tid x))
       → IsIts A history n (Gets which) (over (with_atp n) o)
   other_happens other step.Ignored o is at = plainly report.Ignored o refl refl step.Ignored is refl
       (Plain (record { plain = refl; asked = refl; reading = refl })) at
@@ -191,7 +200,7 @@ module _ (A : Type 0) (laws : HearingLaws A) (history : List Happening) (n : Nod
   other_happens other (step.Finished packets) o is at =
       let r = response packets is in
       steps_so (report.Transactions (atp_report.Response tid packets)) o refl
-      (ends_match A n.seat.net n.seat.number n.atp.tables (after A history) which tid packets
+      (ends_match A n.seat.net n.seat.number n.atp.zones.tables (after A history) which tid packets
       (record {
         packet = s;
         was_sent = was_sent;
@@ -222,12 +231,14 @@ module _ (A : Type 0) (laws : HearingLaws A) (history : List Happening) (n : Nod
     where
       go : (b : Bool) → is_page A n.atp s.from came_in ≡ b →
           MatchBool b (ReadsPage n.seat n.atp taken s.from
-          (names_read n.atp.reading) (record { user = user; data_ = bytes }) o)
-          (o ≡ after_heard n.seat n.atp taken (reported_other tid taken.step) n.atp.reading)
+          (names_read n.atp.zones.reading) (record { user = user; data_ = bytes }) o)
+          (o ≡ over (with_transactions n.atp) (after_heard n.seat n.atp.transactions taken
+          (reported_other tid taken.step)))
           → IsIts A history n (Gets which) (over (with_atp n) o)
       go true e g =
-          let it = reads_it n.atp.reading tid
-          (and_parts (is_reading n.atp.reading tid) (finishes A n.atp.requester s.from came_in) e).0 in
+          let it = reads_it n.atp.zones.reading tid
+          (and_parts (is_reading n.atp.zones.reading tid) (finishes A n.atp.transactions.requester s.from came_in) e).0
+          in
           page_happens A laws history n st which s was_sent fresh to_is place eom sts tid user bytes packet_is part
           is_done it.0 it.1 it.2 e on_net o free
           (subst (λ l. ReadsPage n.seat n.atp taken s.from l (record { user = user; data_ = bytes }) o)

@@ -7,7 +7,7 @@ use Rattle.at_ddp.specs.Address.{same_address}
 use Rattle.at_ddp.specs.declared.address.Address.{Address}
 use Rattle.at_ddp.proofs.Octets.{same_address-true}
 use Rattle.at_atp_responder.specs.Records.{Record, is_key, is_from}
-use Rattle.at_transaction_socket.specs.AtpParts.{asking}
+use Rattle.at_transaction_socket.specs.TransactionSockets.{asking}
 use Rattle.at_node.specs.Numbers.{holds}
 use Rattle.at_node.specs.Nodes.{NodeState}
 use Rattle.at_node.specs.declared.numbers.Draw.TheVariants.{Tid}
@@ -32,8 +32,12 @@ none_of_key net k tid (r ∷ rs) h =
         absurd (true≢false (sym mine ∙ apart))
 
 pub holds_none : (net k tid : ℕ) (n : NodeState) → holds n k (Tid tid) ≡ false
-    → HoldsNo (asking net k) tid n.atp.service_responder × HoldsNo (asking net k) tid n.atp.zone_responder
+    → HoldsNo (asking net k) tid n.atp.transactions.service_responder × HoldsNo (asking net k) tid
+    n.atp.zones.zone_responder
 holds_none net k tid n h =
-    let both = or_parts (list_any (is_from k tid) n.atp.zone_responder)
-    (list_any (is_from k tid) n.atp.service_responder) h in
-    (none_of_key net k tid n.atp.service_responder both.1, none_of_key net k tid n.atp.zone_responder both.0)
+    let both = or_parts (list_any (is_from k tid) n.atp.zones.zone_responder)
+    (list_any (is_from k tid) n.atp.transactions.service_responder) h in (
+      none_of_key net k tid n.atp.transactions.service_responder both.1,
+      none_of_key net k tid n.atp.zones.zone_responder
+          both.0,
+    )

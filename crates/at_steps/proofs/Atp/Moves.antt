@@ -16,7 +16,8 @@ use Rattle.at_steps.proofs.Entries.{entries_of}
 use Rattle.at_atp.specs.Network.{Network, Happening, Other, after, done, with_requester, with_responder, IsTimely}
 use Rattle.at_atp.specs.Transactions.{Transaction, is_transaction, answered}
 use Rattle.at_zip.specs.Tables.{Tables, AreTables}
-use Rattle.at_transaction_socket.specs.AtpParts.{Reading, asking, serving, zones_at}
+use Rattle.at_zone_socket.specs.ZoneSockets.{Reading, zones_at}
+use Rattle.at_transaction_socket.specs.TransactionSockets.{asking, serving}
 use Rattle.at_node.specs.Numbers.{drawn_by}
 use Rattle.at_node.specs.Nodes.{NodeState, with_atp}
 use Rattle.at_event.specs.Outcomes.{idle, sent_by}
@@ -31,6 +32,7 @@ use Rattle.at_steps.proofs.Atp.Stories.{is_quiet, other_matches}
 use Rattle.at_steps.proofs.Coming.{all_sent}
 use Rattle.at_steps.proofs.Atp.Standing.{IsIts, StepTo, no_draw, requesters_stay, responders_stay, with_served}
 use Rattle.at_steps.proofs.Atp.Standing.{with_service}
+use Rattle.at_zone_socket.specs.AtpParts.{both as joined, with_reading, with_transactions, with_zones}
 
 -- ---- lists of transactions
 
@@ -55,9 +57,14 @@ module _ (A : Type 0) (history : List Happening) (n : NodeState) (act : Act A)
 
   -- the router may get other tables
   rests : (now : Option Tables) (r : Report A) → is_quiet r act ≡ true → drawn_by r ≡ None
-      → (sets_table r ≡ false → now ≡ n.atp.tables) → ((tables : Tables) → now ≡ Some tables → AreTables tables)
-      → StepTo A history n act (after A history).asked (record n.atp { tables = now }) r
-      → IsIts A history n act (record { report = r; state = with_atp n (record n.atp { tables = now }); out = [] })
+      → (sets_table r ≡ false → now ≡ n.atp.zones.tables) → ((tables : Tables) → now ≡ Some tables → AreTables tables)
+      → StepTo A history n act (after A history).asked (with_zones n.atp (record n.atp.zones { tables = now })) r
+      → IsIts A history n act (record {
+        report = r;
+        state = with_atp n
+            (with_zones n.atp (record n.atp.zones { tables = now }));
+        out = [];
+      })
   rests now r quiet none same are step = (
     record {
       happening = Other 0;
@@ -74,7 +81,7 @@ module _ (A : Type 0) (history : List Happening) (n : NodeState) (act : Act A)
       is_open = st.is_open;
       same_tables = same;
       has_tables = are;
-      matches = other_matches A n.seat.net n.seat.number n.atp.tables (after A history) 0 act r quiet;
+      matches = other_matches A n.seat.net n.seat.number n.atp.zones.tables (after A history) 0 act r quiet;
     },
     step,
     tt,
@@ -82,16 +89,16 @@ module _ (A : Type 0) (history : List Happening) (n : NodeState) (act : Act A)
 
   pub idle_happens : (r : Report A) → is_plain act r ≡ true → is_quiet r act ≡ true → drawn_by r ≡ None
       → IsIts A history n act (idle n r)
-  idle_happens r plain quiet none = rests n.atp.tables r quiet none (λ no. refl) st.has_tables
+  idle_happens r plain quiet none = rests n.atp.zones.tables r quiet none (λ no. refl) st.has_tables
       (Plain (record { plain = plain; asked = refl; reading = refl }))
 
   pub table_happens : (tables : Tables) → AreTables tables
       → is_quiet {A = A} (report.Zones zip_report.TableSet) act ≡ true
-      → StepTo A history n act (after A history).asked (record n.atp { tables = Some tables })
+      → StepTo A history n act (after A history).asked (with_zones n.atp (record n.atp.zones { tables = Some tables }))
       (report.Zones zip_report.TableSet) →
       IsIts A history n act (record {
         report = report.Zones zip_report.TableSet;
-        state = with_atp n (record n.atp { tables = Some tables });
+        state = with_atp n (with_zones n.atp (record n.atp.zones { tables = Some tables }));
         out = [];
       })
   table_happens tables are quiet step =
@@ -103,12 +110,13 @@ module _ (A : Type 0) (history : List Happening) (n : NodeState) (act : Act A)
   pub requester_happens : (h : Happening) (x : Requests) (reading : Option Reading) (sent : List (Address × Content))
       (r : Report A) → IsTimely A (after A history) h → IsInRange h →
       done A (after A history) h ≡ with_requester (after A history) (asking n.seat.net n.seat.number) x sent
-      → drawn_by r ≡ None → IsOpen (record n.atp { requester = x; reading = reading })
-      → Matches n.seat.net n.seat.number n.atp.tables (after A history) h act r →
-      StepTo A history n act (after A history).asked (record n.atp { requester = x; reading = reading }) r →
+      → drawn_by r ≡ None → IsOpen (with_reading n.atp reading (record n.atp.transactions { requester = x }))
+      → Matches n.seat.net n.seat.number n.atp.zones.tables (after A history) h act r →
+      StepTo A history n act (after A history).asked
+      (with_reading n.atp reading (record n.atp.transactions { requester = x })) r →
       IsIts A history n act (record {
         report = r;
-        state = with_atp n (record n.atp { requester = x; reading = reading });
+        state = with_atp n (with_reading n.atp reading (record n.atp.transactions { requester = x }));
         out = sent_by (asking n.seat.net n.seat.number) atp_kind (spelled_all sent);
       })
   requester_happens h x reading sent r timely range is none opened matches step = (
@@ -129,7 +137,7 @@ module _ (A : Type 0) (history : List Happening) (n : NodeState) (act : Act A)
       has_tables = st.has_tables;
       matches = matches;
     },
-    subst (λ ts. StepTo A history n act ts (record n.atp { requester = x; reading = reading }) r)
+    subst (λ ts. StepTo A history n act ts (with_reading n.atp reading (record n.atp.transactions { requester = x })) r)
         (ap (λ (y : Network). y.asked) (sym is)) step,
     all_sent atp_kind (asking n.seat.net n.seat.number) (spelled_all sent),
   )
@@ -142,12 +150,14 @@ module _ (A : Type 0) (history : List Happening) (n : NodeState) (act : Act A)
       (zones_at n.seat.net n.seat.number) served at) →
       IsTimely A (after A history) h → IsInRange h → done A (after A history) h
       ≡ with_responder (after A history) own rs sent → drawn_by r ≡ None
-      → Matches n.seat.net n.seat.number n.atp.tables (after A history) h act r →
+      → Matches n.seat.net n.seat.number n.atp.zones.tables (after A history) h act r →
       StepTo A history n act (after A history).asked
-      (record n.atp { zone_responder = served; service_responder = service }) r →
+      (joined (record n.atp.transactions { service_responder = service })
+      (record n.atp.zones { zone_responder = served })) r →
       IsIts A history n act (record {
         report = r;
-        state = with_atp n (record n.atp { zone_responder = served; service_responder = service });
+        state = with_atp n (joined (record n.atp.transactions { service_responder = service })
+            (record n.atp.zones { zone_responder = served }));
         out = sent_by own atp_kind (spelled_all sent);
       })
   responder_happens h own rs served service sent r both timely range is none matches step = (
@@ -168,7 +178,8 @@ module _ (A : Type 0) (history : List Happening) (n : NodeState) (act : Act A)
       has_tables = st.has_tables;
       matches = matches;
     },
-    subst (λ ts. StepTo A history n act ts (record n.atp { zone_responder = served; service_responder = service }) r)
+    subst (λ ts. StepTo A history n act ts (joined (record n.atp.transactions { service_responder = service })
+        (record n.atp.zones { zone_responder = served })) r)
         (ap (λ (y : Network). y.asked) (sym is)) step,
     all_sent atp_kind own (spelled_all sent),
   )
@@ -176,29 +187,31 @@ module _ (A : Type 0) (history : List Happening) (n : NodeState) (act : Act A)
   pub service_happens : (h : Happening) (rs : List Record) (sent : List (Address × Content)) (r : Report A)
       → IsTimely A (after A history) h → IsInRange h → done A (after A history) h
       ≡ with_responder (after A history) (serving n.seat.net n.seat.number) rs sent →
-      drawn_by r ≡ None → Matches n.seat.net n.seat.number n.atp.tables (after A history) h act r
-      → StepTo A history n act (after A history).asked (record n.atp { service_responder = rs }) r →
+      drawn_by r ≡ None → Matches n.seat.net n.seat.number n.atp.zones.tables (after A history) h act r
+      → StepTo A history n act (after A history).asked
+      (with_transactions n.atp (record n.atp.transactions { service_responder = rs })) r →
       IsIts A history n act (record {
         report = r;
-        state = with_atp n (record n.atp { service_responder = rs });
+        state = with_atp n (with_transactions n.atp (record n.atp.transactions { service_responder = rs }));
         out = sent_by (serving n.seat.net n.seat.number) atp_kind (spelled_all sent);
       })
   service_happens h rs sent r timely range is none matches step =
-      responder_happens h (serving n.seat.net n.seat.number) rs n.atp.zone_responder rs sent r
+      responder_happens h (serving n.seat.net n.seat.number) rs n.atp.zones.zone_responder rs sent r
       (with_service A history n st rs) timely range is none matches step
 
   pub zones_happen : (h : Happening) (rs : List Record) (sent : List (Address × Content)) (r : Report A)
       → IsTimely A (after A history) h → IsInRange h → done A (after A history) h
       ≡ with_responder (after A history) (zones_at n.seat.net n.seat.number) rs sent →
-      drawn_by r ≡ None → Matches n.seat.net n.seat.number n.atp.tables (after A history) h act r
-      → StepTo A history n act (after A history).asked (record n.atp { zone_responder = rs }) r →
+      drawn_by r ≡ None → Matches n.seat.net n.seat.number n.atp.zones.tables (after A history) h act r
+      → StepTo A history n act (after A history).asked (with_zones n.atp (record n.atp.zones { zone_responder = rs })) r
+      →
       IsIts A history n act (record {
         report = r;
-        state = with_atp n (record n.atp { zone_responder = rs });
+        state = with_atp n (with_zones n.atp (record n.atp.zones { zone_responder = rs }));
         out = sent_by (zones_at n.seat.net n.seat.number) atp_kind (spelled_all sent);
       })
   zones_happen h rs sent r timely range is none matches step =
-      responder_happens h (zones_at n.seat.net n.seat.number) rs rs n.atp.service_responder sent r
+      responder_happens h (zones_at n.seat.net n.seat.number) rs rs n.atp.transactions.service_responder sent r
       (with_served A history n st rs) timely range is none matches step
 
   -- ---- an answer is given at a socket of this node, whose records become these
@@ -213,12 +226,14 @@ module _ (A : Type 0) (history : List Happening) (n : NodeState) (act : Act A)
       (done A (after A history) h).sent ≡ (after A history).sent ++ stamped (after A history).event own sent
       → (done A (after A history) h).drawn ≡ (after A history).drawn →
       (done A (after A history) h).asked ≡ answered (after A history).asked from tid packets → drawn_by r ≡ None
-      → Matches n.seat.net n.seat.number n.atp.tables (after A history) h act r →
+      → Matches n.seat.net n.seat.number n.atp.zones.tables (after A history) h act r →
       StepTo A history n act (answered (after A history).asked from tid packets)
-      (record n.atp { zone_responder = served; service_responder = service }) r →
+      (joined (record n.atp.transactions { service_responder = service })
+      (record n.atp.zones { zone_responder = served })) r →
       IsIts A history n act (record {
         report = r;
-        state = with_atp n (record n.atp { zone_responder = served; service_responder = service });
+        state = with_atp n (joined (record n.atp.transactions { service_responder = service })
+            (record n.atp.zones { zone_responder = served }));
         out = sent_by own atp_kind (spelled_all sent);
       })
   gave_happens h r own from tid packets served service sent timely range event requesters responders is drawn is_asked
@@ -241,7 +256,8 @@ module _ (A : Type 0) (history : List Happening) (n : NodeState) (act : Act A)
           has_tables = st.has_tables;
           matches = matches;
         },
-        subst (λ ts. StepTo A history n act ts (record n.atp { zone_responder = served; service_responder = service })
+        subst (λ ts. StepTo A history n act ts (joined (record n.atp.transactions { service_responder = service })
+            (record n.atp.zones { zone_responder = served }))
             r)
             (sym is_asked) step,
         all_sent atp_kind own (spelled_all sent),

@@ -19,16 +19,18 @@ use Rattle.at_zip.specs.Tables.{Tables}
 use Rattle.at_zip.specs.Zones.{table_fault}
 use Rattle.at_zip.specs.declared.request.Which.{Which}
 use Rattle.at_zip.specs.declared.fault.ZipFault.{ZipFault}
-use Rattle.at_transaction_socket.specs.AtpParts.{AtpState, Reading, asking as asker, serving}
+use Rattle.at_zone_socket.specs.AtpParts.{AtpState, with_transactions, with_zones}
+use Rattle.at_zone_socket.specs.ZoneSockets.{Reading}
+use Rattle.at_transaction_socket.specs.TransactionSockets.{asking as asker, serving}
 use Rattle.at_event.specs.Kinds.{Atp}
 use Rattle.at_node.specs.Nodes.{NodeState, called, timed, with_atp}
-use Rattle.at_event.specs.Outcomes.{Outcome, idle, refused_as}
-use Rattle.at_transaction_socket.specs.RequesterSocket.{after_retry, asked_as, retry_fired}
-use Rattle.at_transaction_socket.specs.Responders.{expired, records_at}
+use Rattle.at_event.specs.Outcomes.{Outcome, idle, refused_as, over}
+use Rattle.at_zone_socket.specs.AtpTimers.{after_retry, retry_fired, expired, records_at}
+use Rattle.at_transaction_socket.specs.RequesterSocket.{asked_as}
 use Rattle.at_event.specs.Seats.{at_socket}
 use Rattle.at_transaction_socket.specs.ServiceSocket.{answered_with}
-use Rattle.at_transaction_socket.specs.ZoneReading.{after_failing, is_reading, reading_begins, zones_called}
-use Rattle.at_transaction_socket.specs.ZoneSocket.{set_zones_called, table_set}
+use Rattle.at_zone_socket.specs.ZoneReading.{after_failing, is_reading, reading_begins, zones_called}
+use Rattle.at_zone_socket.specs.ZoneSocket.{set_zones_called, table_set}
 use Rattle.at_event.specs.declared.Call.{Call}
 use Rattle.at_event.specs.declared.Call.TheVariants.{Transactions, Zones}
 use Rattle.at_event.specs.declared.transactions.TransactionCall.TheVariants.{Ask, Answer}
@@ -61,17 +63,18 @@ module _ (A : Type 0) (call : Call A) (a : AtpState) where
   call_refused (Some k) = (tt, (tt, tt))
 
   asking : (s : Seat) (to : Address) (user bytes : List ℕ) (wanted : ℕ) (xo : Bool) (retries : ℕ) (o : Option ℕ)
-      → IsOfTransactions A (Calls call) (asked_as s a to user bytes wanted xo retries o)
+      → IsOfTransactions A (Calls call) (over (with_transactions a)
+      (asked_as s a.transactions to user bytes wanted xo retries o))
   asking s to user bytes wanted xo retries None = call_refused (atp.number_of Full)
   asking s to user bytes wanted xo retries (Some tid) = ((refl, tt), (refl, tt))
 
   asking_bytes : (s : Seat) (to : Address) (user bytes : List ℕ) (wanted : ℕ) (xo : Bool) (retries : ℕ) (b : Bool)
       → IsOfTransactions A (Calls call)
-      (cond b (idle a (refused_as (atp.number_of AtpTooLong)))
-      (asked_as s a to user bytes wanted xo retries (next_number a.requester)))
+      (over (with_transactions a) (cond b (idle a.transactions (refused_as (atp.number_of AtpTooLong)))
+      (asked_as s a.transactions to user bytes wanted xo retries (next_number a.transactions.requester))))
   asking_bytes s to user bytes wanted xo retries true = call_refused (atp.number_of AtpTooLong)
   asking_bytes s to user bytes wanted xo retries false = asking s to user bytes wanted xo retries
-      (next_number a.requester)
+      (next_number a.transactions.requester)
 
   reading : (s : Seat) (kind : Which) (router : ℕ) (o : Option ℕ)
       → IsOfTransactions A (Calls call) (reading_begins s a kind router o)
@@ -82,23 +85,23 @@ module _ (A : Type 0) (call : Call A) (a : AtpState) where
       → IsOfTransactions A (Calls call) (zones_called s a kind router now)
   reading_zones s kind None now = (tt, (tt, tt))
   reading_zones s kind (Some router) (Some r) = (tt, (tt, tt))
-  reading_zones s kind (Some router) None = reading s kind router (next_number a.requester)
+  reading_zones s kind (Some router) None = reading s kind router (next_number a.transactions.requester)
 
   setting : (tables : Tables) (kind : Which) (names : List (List ℕ)) (o : Option ZipFault)
-      → IsOfTransactions A (Calls call) (table_set a tables kind names o)
+      → IsOfTransactions A (Calls call) (over (with_zones a) (table_set a.zones tables kind names o))
   setting tables kind names None = (tt, (refl, tt))
   setting tables kind names (Some fault) = call_refused (zip.number_of fault)
 
   setting_zones : (kind : Which) (names : List (List ℕ)) (now : Option Tables)
-      → IsOfTransactions A (Calls call) (set_zones_called a now kind names)
+      → IsOfTransactions A (Calls call) (over (with_zones a) (set_zones_called a.zones now kind names))
   setting_zones kind names None = (tt, (tt, tt))
   setting_zones kind names (Some tables) = setting tables kind names (table_fault names)
 
   answering : (s : Seat) (key : Key) (packets : List Packet) (o : Option AtpFault)
-      → IsOfTransactions A (Calls call) (answered_with s a key packets o)
+      → IsOfTransactions A (Calls call) (over (with_transactions a) (answered_with s a.transactions key packets o))
   answering s key packets None = (
     all_sent atp_kind (serving s.net s.number)
-        (spelled_all (asked_for (find (is_key key) a.service_responder) key packets)),
+        (spelled_all (asked_for (find (is_key key) a.transactions.service_responder) key packets)),
     (refl, tt),
   )
   answering s key packets (Some fault) = call_refused (atp.number_of fault)
@@ -107,10 +110,10 @@ pub zone_lists_called : (A : Type 0) (n : NodeState) (call : ZoneCall A)
     → ComesOfAtp A n (Calls (Zones call)) (called n (Zones call))
 zone_lists_called A n (zone.Read kind) = record {
   state = refl;
-  its = reading_zones A (Zones (zone.Read kind)) n.atp n.seat kind n.seat.router n.atp.reading;
+  its = reading_zones A (Zones (zone.Read kind)) n.atp n.seat kind n.seat.router n.atp.zones.reading;
 }
 zone_lists_called A n (zone.Set kind names) =
-    record { state = refl; its = setting_zones A (Zones (zone.Set kind names)) n.atp kind names n.atp.tables }
+    record { state = refl; its = setting_zones A (Zones (zone.Set kind names)) n.atp kind names n.atp.zones.tables }
 
 pub transactions_called : (A : Type 0) (n : NodeState) (call : TransactionCall A)
     → ComesOfAtp A n (Calls (Transactions call)) (called n (Transactions call))
@@ -122,7 +125,7 @@ transactions_called A n (Ask node socket user bytes wanted xo retries) = record 
 transactions_called A n (Answer key packets) = record {
   state = refl;
   its = answering A (Transactions (Answer key packets)) n.atp n.seat key packets
-      (answer_fault n.atp.service_responder key packets);
+      (answer_fault n.atp.transactions.service_responder key packets);
 }
 
 -- ---- timers
@@ -140,7 +143,7 @@ module _ (A : Type 0) (a : AtpState) where
   retrying : (s : Seat) (tid : ℕ) (r : Retried) (x : Retry)
       → IsOfTransactions A (Fires (timer.Transactions (atp_timer.Retry tid))) (after_retry s a tid r x)
   retrying s tid r retry.AskedAgain = (all_sent atp_kind (asker s.net s.number) (spelled_all r.sent), (tt, tt))
-  retrying s tid r retry.Failed = failing tid r.after (is_reading a.reading tid)
+  retrying s tid r retry.Failed = failing tid r.after (is_reading a.zones.reading tid)
 
   firing : (s : Seat) (tid : ℕ) (o : Option Retried)
       → IsOfTransactions A (Fires (timer.Transactions (atp_timer.Retry tid))) (retry_fired s a tid o)
@@ -156,6 +159,6 @@ module _ (A : Type 0) (a : AtpState) where
 pub transactions_timed : (A : Type 0) (n : NodeState) (time : TransactionTimer)
     → ComesOfAtp A n (Fires (timer.Transactions time)) (timed n (timer.Transactions time))
 transactions_timed A n (atp_timer.Retry tid) =
-    record { state = refl; its = firing A n.atp n.seat tid (retried n.atp.requester tid) }
+    record { state = refl; its = firing A n.atp n.seat tid (retried n.atp.transactions.requester tid) }
 transactions_timed A n (atp_timer.Release own key) =
     record { state = refl; its = expiring A n.atp own key (expiry_fault (find (is_key key) (records_at n.atp own))) }

@@ -12,12 +12,14 @@ use Rattle.at_atp.specs.Transactions.{Transaction, transaction_of, Asked, IsPart
 use Rattle.at_zip.specs.Page.{Page, Spells}
 use Rattle.at_zip.specs.Reading.{place_after}
 use Rattle.at_zip.specs.Request.{request_user}
-use Rattle.at_transaction_socket.specs.AtpParts.{AtpState, Reading, asking, after_heard, asks as asks_page}
+use Rattle.at_zone_socket.specs.AtpParts.{AtpState, with_reading}
+use Rattle.at_zone_socket.specs.ZoneSockets.{Reading}
+use Rattle.at_transaction_socket.specs.TransactionSockets.{asking, asks as asks_page}
 use Rattle.at_node.specs.Numbers.{drawn_by}
 use Rattle.at_node.specs.Nodes.{with_atp, NodeState}
 use Rattle.at_event.specs.Outcomes.{over, Outcome}
-use Rattle.at_transaction_socket.specs.ZoneReading.{AsksOn, ReadsPage, is_page, is_reading, page_transaction}
-use Rattle.at_transaction_socket.specs.ZoneReading.{table_read}
+use Rattle.at_zone_socket.specs.ZoneReading.{AsksOn, ReadsPage, is_page, is_reading, page_transaction, table_read}
+use Rattle.at_zone_socket.specs.ZoneReading.{reading_ends as ends_reading}
 use Rattle.at_node.specs.declared.numbers.Draw.TheVariants.{Tid}
 use Rattle.at_event.specs.declared.Report.{Report}
 use Rattle.at_event.specs.declared.Report.TheVariants as report
@@ -45,19 +47,19 @@ module _ (A : Type 0) (laws : HearingLaws A) (history : List Happening) (n : Nod
     × IsPart a.transaction place eom (record { user = user; data_ = bytes }))
     (is_done : done A (after A history) (Hears which)
     ≡ with_requester (after A history) (asking n.seat.net n.seat.number)
-    (heard {A = A} n.atp.requester s.from (Response place eom sts tid user bytes)).after
-    (heard {A = A} n.atp.requester s.from (Response place eom sts tid user bytes)).sent) where
+    (heard {A = A} n.atp.transactions.requester s.from (Response place eom sts tid user bytes)).after
+    (heard {A = A} n.atp.transactions.requester s.from (Response place eom sts tid user bytes)).sent) where
   abbrev came_in : Content
   came_in = Response place eom sts tid user bytes
 
   -- what the requester makes of it
   abbrev taken : requests.Heard A
-  taken = heard {A = A} n.atp.requester s.from came_in
+  taken = heard {A = A} n.atp.transactions.requester s.from came_in
 
-  nothing_open : (x : Requests) → IsOpen (record n.atp { requester = x; reading = None })
+  nothing_open : (x : Requests) → IsOpen (with_reading n.atp None (record n.atp.transactions { requester = x }))
   nothing_open x r reads = absurd (cc)
 
-  module _ (r : Reading) (reads : n.atp.reading ≡ Some r) (numbered : r.tid ≡ tid)
+  module _ (r : Reading) (reads : n.atp.zones.reading ≡ Some r) (numbered : r.tid ≡ tid)
       (mine : is_page A n.atp s.from came_in ≡ true)
       (on_net : (s.from).net ≡ n.seat.net) where
     abbrev came : (ts : List Transaction) (now : AtpState) (told : Report A)
@@ -93,21 +95,23 @@ module _ (A : Type 0) (laws : HearingLaws A) (history : List Happening) (n : Nod
 
     reading_ends : (told : Report A) (o : Outcome A AtpState) → drawn_by told ≡ None → is_quiet told (Gets which)
         ≡ true → Tells r.which r.names (record { user = user; data_ = bytes }) told →
-        o ≡ after_heard n.seat n.atp taken told None → IsIts A history n (Gets which) (over (with_atp n) o)
+        o ≡ ends_reading n.seat n.atp taken told → IsIts A history n (Gets which) (over (with_atp n) o)
     reading_ends told o none quiet tells is =
         subst (λ x. IsIts A history n (Gets which) (over (with_atp n) x)) (sym is)
         (requester_happens A history n (Gets which) st (Hears which) taken.after None taken.sent told
         (in_time (after A history) which s was_sent fresh) tt is_done none (nothing_open taken.after)
-        (hears_matches A n.seat.net n.seat.number n.atp.tables (after A history) which (Gets which) told quiet)
+        (hears_matches A n.seat.net n.seat.number n.atp.zones.tables (after A history) which (Gets which) told quiet)
         (HasRead (record {
-          came = came (after A history).asked (record n.atp { requester = taken.after; reading = None }) told;
+          came = came (after A history).asked (with_reading n.atp None
+              (record n.atp.transactions { requester = taken.after })) told;
           tells = tells;
           asked = refl;
           reading = refl;
         })))
 
-    ended : finishes A n.atp.requester s.from came_in ≡ true
-    ended = (and_parts (is_reading n.atp.reading tid) (finishes A n.atp.requester s.from came_in) mine).1
+    ended : finishes A n.atp.transactions.requester s.from came_in ≡ true
+    ended = (and_parts (is_reading n.atp.zones.reading tid) (finishes A n.atp.transactions.requester s.from came_in)
+        mine).1
 
     reading_turns : (p : Page) (o : Outcome A AtpState) → Spells user bytes p → p.last ≡ false
         → length r.names + length p.names ≤ 1024
@@ -116,31 +120,32 @@ module _ (A : Type 0) (laws : HearingLaws A) (history : List Happening) (n : Nod
         AsksOn n.seat n.atp taken s.from (r.names ++ p.names) o → IsIts A history n (Gets which) (over (with_atp n) o)
     reading_turns p o spelled last few free asks =
         let names = r.names ++ p.names in
-        let kind = table_read n.atp.reading in
+        let kind = table_read n.atp.zones.reading in
         let k = asks.tid in
-        let as_packet : finishes A n.atp.requester s.from s.packet
-        ≡ true = ap (finishes A n.atp.requester s.from) packet_is ∙ ended in
-        let drawn : next_number (heard {A = A} n.atp.requester s.from s.packet).after
-        ≡ Some k = ap (λ f. next_number (heard {A = A} n.atp.requester s.from f).after) packet_is ∙ asks.drawn in
-        let nothing : (heard {A = A} n.atp.requester s.from s.packet).sent
-        ≡ [] = ap (λ f. (heard {A = A} n.atp.requester s.from f).sent) packet_is
-        ∙ laws.quiet_end n.atp.requester s.from came_in ended in
+        let as_packet : finishes A n.atp.transactions.requester s.from s.packet
+        ≡ true = ap (finishes A n.atp.transactions.requester s.from) packet_is ∙ ended in
+        let drawn : next_number (heard {A = A} n.atp.transactions.requester s.from s.packet).after
+        ≡ Some k = ap (λ f. next_number (heard {A = A} n.atp.transactions.requester s.from f).after) packet_is
+        ∙ asks.drawn in
+        let nothing : (heard {A = A} n.atp.transactions.requester s.from s.packet).sent
+        ≡ [] = ap (λ f. (heard {A = A} n.atp.transactions.requester s.from f).sent) packet_is
+        ∙ laws.quiet_end n.atp.transactions.requester s.from came_in ended in
         let free_now : NoneHolds (after A history).responders (asking n.seat.net n.seat.number) k =
         free k (ap (λ (x : Outcome A AtpState). drawn_by x.report) asks.outcome) in
         subst (λ x. IsIts A history n (Gets which) (over (with_atp n) x)) (sym asks.outcome)
         (subst (λ (q : Requests). IsIts A history n (Gets which)
-        (over (with_atp n) (asks_page n.seat (record n.atp { requester = q })
-        (Some (record { which = kind; tid = k; names = names })) (page_transaction s.from kind names k))))
-        (ap (λ f. (heard {A = A} n.atp.requester s.from f).after) packet_is)
+        (over (with_atp n) (over (with_reading n.atp (Some (record { which = kind; tid = k; names = names })))
+        (asks_page n.seat (record n.atp.transactions { requester = q }) (page_transaction s.from kind names k)))))
+        (ap (λ f. (heard {A = A} n.atp.transactions.requester s.from f).after) packet_is)
         (turned_happens A history n (Gets which) st which s
         (request_user kind (place_after names)) 3 k was_sent to_is as_packet drawn nothing
         (Some (record { which = kind; tid = k; names = names })) (in_time
         (after A history) which s was_sent fresh) free_now
         (asks_fit kind names) on_net
-        (λ q is. begun_is_open (heard {A = A} n.atp.requester s.from s.packet).after
+        (λ q is. begun_is_open (heard {A = A} n.atp.transactions.requester s.from s.packet).after
         (page_transaction s.from kind names k)
         (record { which = kind; tid = k; names = names }) q refl is)
-        (turns_match A n.seat.net n.seat.number n.atp.tables (after A history) which s
+        (turns_match A n.seat.net n.seat.number n.atp.zones.tables (after A history) which s
         (request_user kind (place_after names)) 3 k
         (it_ends A history n (Gets which) st which s
         (request_user kind (place_after names)) 3 k was_sent to_is as_packet drawn nothing)
@@ -148,11 +153,12 @@ module _ (A : Type 0) (laws : HearingLaws A) (history : List Happening) (n : Nod
         (request_user kind (place_after names)) 3 k was_sent to_is as_packet drawn nothing) to_is)
         (steps.Turns (record {
           came = came (page_asked n.seat.net n.seat.number s.from kind names k ∷ (after A history).asked)
-              (record n.atp {
-                requester = begun (heard {A = A} n.atp.requester s.from s.packet).after
+              (with_reading n.atp (Some (record { which = kind; tid = k; names = names }))
+              (record n.atp.transactions {
+                requester = begun
+                    (heard {A = A} n.atp.transactions.requester s.from s.packet).after
                     (page_transaction s.from kind names k);
-                reading = Some (record { which = kind; tid = k; names = names });
-              }) (report.Transactions (atp_report.Begun k));
+              })) (report.Transactions (atp_report.Begun k));
           page = p;
           spelled = spelled;
           last = last;
@@ -175,9 +181,9 @@ module _ (A : Type 0) (laws : HearingLaws A) (history : List Happening) (n : Nod
         (h.page).last refl refl h.outcome
       where
         go : (long last : Bool) → nat_lt 1024 (length r.names + length (h.page).names) ≡ long → (h.page).last ≡ last →
-            MatchBool long (o ≡ after_heard n.seat n.atp taken (report.Zones (zip_report.Fault 34)) None)
-            (MatchBool last (o ≡ after_heard n.seat n.atp taken
-            (report.Zones (zip_report.List (table_read n.atp.reading) (r.names ++ (h.page).names))) None)
+            MatchBool long (o ≡ ends_reading n.seat n.atp taken (report.Zones (zip_report.Fault 34)))
+            (MatchBool last (o ≡ ends_reading n.seat n.atp taken
+            (report.Zones (zip_report.List (table_read n.atp.zones.reading) (r.names ++ (h.page).names))))
             (AsksOn n.seat n.atp taken s.from (r.names ++ (h.page).names) o))
             → IsIts A history n (Gets which) (over (with_atp n) o)
         go true last e f g = reading_ends (report.Zones (zip_report.Fault 34)) o refl refl
@@ -188,7 +194,7 @@ module _ (A : Type 0) (laws : HearingLaws A) (history : List Happening) (n : Nod
               tells = refl;
             })) g
         go false true e f g =
-            reading_ends (report.Zones (zip_report.List (table_read n.atp.reading) (r.names ++ (h.page).names))) o
+            reading_ends (report.Zones (zip_report.List (table_read n.atp.zones.reading) (r.names ++ (h.page).names))) o
             refl refl (All (record {
               page = h.page;
               spelled = h.spelled;

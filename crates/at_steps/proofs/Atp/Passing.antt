@@ -8,7 +8,9 @@ use Rattle.at_ddp.specs.Posts.{put}
 use Rattle.at_steps.proofs.Drawing.{draws_its_own}
 use Rattle.at_steps.proofs.Entries.{entries_foreign}
 use Rattle.at_atp.specs.Network.{Happening, Other, after}
-use Rattle.at_transaction_socket.specs.AtpParts.{AtpState, asking, serving, zones_at}
+use Rattle.at_zone_socket.specs.AtpParts.{AtpState}
+use Rattle.at_transaction_socket.specs.TransactionSockets.{asking, serving}
+use Rattle.at_zone_socket.specs.ZoneSockets.{zones_at}
 use Rattle.at_node.specs.Numbers.{drawn_by}
 use Rattle.at_node.specs.Nodes.{NodeState}
 use Rattle.at_node.specs.declared.numbers.Draw.{Draw}
@@ -56,21 +58,22 @@ module _ (A : Type 0) (history : List Happening) (n : NodeState) (act : Act A)
       in_range = tt;
       same_event = refl;
       requesters = λ who. requesters_stay A history n st who
-          ∙ ap (λ (a : AtpState). put (after A history).requesters (asking n.seat.net n.seat.number) a.requester who)
+          ∙ ap (λ (a : AtpState). put (after A history).requesters (asking n.seat.net n.seat.number)
+          a.transactions.requester who)
           (sym foreign.same);
       responders = λ at. responders_stay A history n st at
           ∙ ap (λ (a : AtpState). put
-          (put (after A history).responders (serving n.seat.net n.seat.number) a.service_responder)
-          (zones_at n.seat.net n.seat.number) a.zone_responder at) (sym foreign.same);
+          (put (after A history).responders (serving n.seat.net n.seat.number) a.transactions.service_responder)
+          (zones_at n.seat.net n.seat.number) a.zones.zone_responder at) (sym foreign.same);
       more = replicate (length o.out) None;
       sent = refl;
       posts = entries_foreign atp_coding (after A history).event o.out foreign.sends;
       drawn = sym (append-nil (after A history).drawn) ∙ ap (λ l. (after A history).drawn ++ l) (sym none);
       on_net = st.on_net;
       is_open = subst IsOpen (sym foreign.same) st.is_open;
-      same_tables = λ no. ap (λ (a : AtpState). a.tables) foreign.same;
-      has_tables = λ tables is. st.has_tables tables (sym (ap (λ (a : AtpState). a.tables) foreign.same) ∙ is);
-      matches = other_matches A n.seat.net n.seat.number n.atp.tables (after A history)
+      same_tables = λ no. ap (λ (a : AtpState). a.zones.tables) foreign.same;
+      has_tables = λ tables is. st.has_tables tables (sym (ap (λ (a : AtpState). a.zones.tables) foreign.same) ∙ is);
+      matches = other_matches A n.seat.net n.seat.number n.atp.zones.tables (after A history)
           (length o.out) act o.report quiet;
     },
     refl,

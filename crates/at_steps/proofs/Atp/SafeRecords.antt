@@ -16,15 +16,16 @@ use Rattle.at_atp_responder.specs.declared.reception.Key.{Key}
 use Rattle.at_atp_responder.specs.declared.reception.Reception.TheVariants as reception
 use Rattle.at_zip.specs.Zones.{table_fault}
 use Rattle.at_zip.specs.declared.fault.ZipFault.{ZipFault}
-use Rattle.at_event.specs.Outcomes.{Outcome}
+use Rattle.at_event.specs.Outcomes.{Outcome, over}
 use Rattle.at_event.specs.declared.fault.NodeFault.TheVariants as nodes
-use Rattle.at_transaction_socket.specs.AtpParts.{AtpState, serving}
+use Rattle.at_zone_socket.specs.AtpParts.{AtpState, with_transactions, with_zones}
+use Rattle.at_transaction_socket.specs.TransactionSockets.{serving}
 use Rattle.at_node.specs.Nodes.{NodeState}
-use Rattle.at_transaction_socket.specs.Responders.{expired, records_at, release_fired}
+use Rattle.at_zone_socket.specs.AtpTimers.{expired, records_at, release_fired}
 use Rattle.at_transaction_socket.specs.ServiceSocket.{answered_with}
 use Rattle.at_zip.specs.Tables.{Tables}
 use Rattle.at_zip.specs.declared.request.Which.{Which}
-use Rattle.at_transaction_socket.specs.ZoneSocket.{set_zones_called, table_set}
+use Rattle.at_zone_socket.specs.ZoneSocket.{set_zones_called, table_set}
 use Rattle.at_steps.specs.Safety.{IsSafe, IsTrueOf, Place}
 use Rattle.at_event.specs.declared.Reason.TheVariants.{OfNodes, OfTransactions, OfZones}
 use Rattle.at_steps.proofs.Safety.By.{packets_few, quiet, refused}
@@ -63,12 +64,13 @@ module _ (A : Type 0) (n : NodeState) (Wants : Place → Type 0) where
   -- ---- calls and timers
 
   table_safe : (tables : Tables) (kind : Which) (names : List (List ℕ)) (fault : Option ZipFault)
-      → Safe (table_set n.atp tables kind names fault)
-  table_safe tables kind names None = quiet A Wants n n.atp (table_set n.atp tables kind names None) refl (omega arith)
+      → Safe (over (with_zones n.atp) (table_set n.atp.zones tables kind names fault))
+  table_safe tables kind names None = quiet A Wants n n.atp
+      (over (with_zones n.atp) (table_set n.atp.zones tables kind names None)) refl (omega arith)
   table_safe tables kind names (Some fault) = refused A Wants n n.atp (OfZones fault) tt
 
   pub set_zones_safe : (kind : Which) (names : List (List ℕ)) (tables : Option Tables)
-      → Safe (set_zones_called n.atp tables kind names)
+      → Safe (over (with_zones n.atp) (set_zones_called n.atp.zones tables kind names))
   set_zones_safe kind names None = refused A Wants n n.atp (OfNodes nodes.NoRouter) tt
   set_zones_safe kind names (Some tables) = table_safe tables kind names (table_fault names)
 
@@ -91,14 +93,17 @@ module _ (A : Type 0) (n : NodeState) (Wants : Place → Type 0) where
       go false h = told atps.AtpTooLong fault h tt
 
   pub answer_safe : RecordLaws → (key : Key) (packets : List Packet) (fault : Option AtpFault)
-      → answer_fault n.atp.service_responder key packets ≡ fault → Safe (answered_with n.seat n.atp key packets fault)
+      → answer_fault n.atp.transactions.service_responder key packets ≡ fault → Safe
+      (over (with_transactions n.atp) (answered_with n.seat n.atp.transactions key packets fault))
   answer_safe laws key packets (Some fault) is =
-      refused A Wants n n.atp (OfTransactions fault) (answer_true n.atp.service_responder key packets fault is)
+      refused A Wants n n.atp (OfTransactions fault)
+      (answer_true n.atp.transactions.service_responder key packets fault is)
   answer_safe laws key packets None is =
-      let sent = asked_for (find (is_key key) n.atp.service_responder) key packets in
-      let most = laws.answered (find (is_key key) n.atp.service_responder) key packets in
-      let eight = answer_fits n.atp.service_responder key packets is in
-      quiet A Wants n n.atp (answered_with n.seat n.atp key packets None) refl
+      let sent = asked_for (find (is_key key) n.atp.transactions.service_responder) key packets in
+      let most = laws.answered (find (is_key key) n.atp.transactions.service_responder) key packets in
+      let eight = answer_fits n.atp.transactions.service_responder key packets is in
+      quiet A Wants n n.atp (over (with_transactions n.atp) (answered_with n.seat n.atp.transactions key packets None))
+      refl
       (packets_few (serving n.seat.net n.seat.number) atp_kind sent 131070 (omega (arith, most, eight)))
 
   expiry_true : (o : Option Record) (fault : AtpFault) → expiry_fault o ≡ Some fault → True fault

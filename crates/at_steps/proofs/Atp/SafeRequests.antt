@@ -19,19 +19,21 @@ use Rattle.at_zip.specs.Page.{Page}
 use Rattle.at_zip.specs.Fault as zip
 use Rattle.at_zip.specs.declared.fault.ZipFault.{ZipFault}
 use Rattle.at_zip.specs.declared.fault.ZipFault.TheVariants.{TooManyZones}
-use Rattle.at_event.specs.Outcomes.{Outcome, idle, refused_as}
+use Rattle.at_event.specs.Outcomes.{Outcome, idle, refused_as, over}
 use Rattle.at_event.specs.declared.Report.{Report}
 use Rattle.at_event.specs.declared.Report.TheVariants as report
 use Rattle.at_event.specs.declared.zones.ZoneReport.TheVariants as zip_report
 use Rattle.at_event.specs.declared.fault.NodeFault.TheVariants as nodes
-use Rattle.at_transaction_socket.specs.AtpParts.{AtpState, Reading, after_heard, asking as asking_at, asks, packet_in}
-use Rattle.at_transaction_socket.specs.AtpParts.{tid_of}
+use Rattle.at_zone_socket.specs.AtpParts.{AtpState, with_reading, with_transactions}
+use Rattle.at_zone_socket.specs.ZoneSockets.{Reading}
+use Rattle.at_transaction_socket.specs.TransactionSockets.{after_heard, asking as asking_at, asks, packet_in, tid_of}
 use Rattle.at_node.specs.Nodes.{NodeState}
-use Rattle.at_transaction_socket.specs.RequesterSocket.{AtRequester, after_retry, asked_as, hears_other, reported_other}
-use Rattle.at_transaction_socket.specs.RequesterSocket.{retry_fired}
-use Rattle.at_transaction_socket.specs.ZoneReading.{AsksOn, ReadsPage, TakesPage, after_failing, is_page, is_reading}
-use Rattle.at_transaction_socket.specs.ZoneReading.{names_read, page_transaction, reading_begins, table_read}
-use Rattle.at_transaction_socket.specs.ZoneReading.{zones_called}
+use Rattle.at_zone_socket.specs.AtpHearing.{AtRequester}
+use Rattle.at_zone_socket.specs.AtpTimers.{after_retry, retry_fired}
+use Rattle.at_transaction_socket.specs.RequesterSocket.{asked_as, hears_other, reported_other}
+use Rattle.at_zone_socket.specs.ZoneReading.{AsksOn, ReadsPage, TakesPage, after_failing, is_page, is_reading}
+use Rattle.at_zone_socket.specs.ZoneReading.{names_read, page_transaction, reading_begins, table_read, zones_called}
+use Rattle.at_zone_socket.specs.ZoneReading.{reading_ends}
 use Rattle.at_zip.specs.declared.request.Which.{Which}
 use Rattle.at_steps.specs.Safety.{Asking, IsPlaceOfCall, IsSafe, Place, number_told}
 use Rattle.at_event.specs.declared.Reason.TheVariants.{OfNodes, OfTransactions}
@@ -79,35 +81,41 @@ module _ (A : Type 0) (n : NodeState) where
     abbrev Calling : Outcome A AtpState → Type 0
     Calling o = IsSafe IsPlaceOfCall n n.atp o
 
-    full : next_number n.atp.requester ≡ None → 32 ≤ length n.atp.requester.standing
-    full none = go (nat_lt (length n.atp.requester.standing) 32) refl
+    full : next_number n.atp.transactions.requester ≡ None → 32 ≤ length n.atp.transactions.requester.standing
+    full none = go (nat_lt (length n.atp.transactions.requester.standing) 32) refl
       where
-        go : (b : Bool) → nat_lt (length n.atp.requester.standing) 32 ≡ b → 32 ≤ length n.atp.requester.standing
+        go : (b : Bool) → nat_lt (length n.atp.transactions.requester.standing) 32 ≡ b → 32 ≤ length
+            n.atp.transactions.requester.standing
         go true few =
-            let some = free n.atp.requester (grind (arith, nat_tests, few)) in
+            let some = free n.atp.transactions.requester (grind (arith, nat_tests, few)) in
             let never = subst (λ (o : Option ℕ). IsSome o) none some in
             absurd (cc)
         go false most = grind (arith, nat_tests, most)
 
-    refused_full : next_number n.atp.requester ≡ None → Calling (idle n.atp (refused_as (atp.number_of atps.Full)))
+    refused_full : next_number n.atp.transactions.requester ≡ None → Calling
+        (idle n.atp (refused_as (atp.number_of atps.Full)))
     refused_full none = refused A IsPlaceOfCall n n.atp (OfTransactions atps.Full) (Asking, refl, full none)
 
     pub asking_safe : (to : Address) (user bytes : List ℕ) (wanted : ℕ) (xo : Bool) (retries : ℕ) (tid : Option ℕ)
-        → next_number n.atp.requester ≡ tid → Calling (asked_as n.seat n.atp to user bytes wanted xo retries tid)
+        → next_number n.atp.transactions.requester ≡ tid → Calling
+        (over (with_transactions n.atp) (asked_as n.seat n.atp.transactions to user bytes wanted xo retries tid))
     asking_safe to user bytes wanted xo retries None is = refused_full is
     asking_safe to user bytes wanted xo retries (Some tid) is =
-        quiet A IsPlaceOfCall n n.atp (asked_as n.seat n.atp to user bytes wanted xo retries (Some tid)) refl
+        quiet A IsPlaceOfCall n n.atp (over (with_transactions n.atp)
+        (asked_as n.seat n.atp.transactions to user bytes wanted xo retries (Some tid))) refl
         (omega arith)
 
     pub ask_safe : (to : Address) (user bytes : List ℕ) (wanted : ℕ) (xo : Bool) (retries : ℕ) (long : Bool)
-        → Calling (cond long (idle n.atp (refused_as (atp.number_of atps.AtpTooLong)))
-        (asked_as n.seat n.atp to user bytes wanted xo retries (next_number n.atp.requester)))
+        → Calling (over (with_transactions n.atp)
+        (cond long (idle n.atp.transactions (refused_as (atp.number_of atps.AtpTooLong)))
+        (asked_as n.seat n.atp.transactions to user bytes wanted xo retries
+        (next_number n.atp.transactions.requester))))
     ask_safe to user bytes wanted xo retries true =
         refused A IsPlaceOfCall n n.atp (OfTransactions atps.AtpTooLong) tt
     ask_safe to user bytes wanted xo retries false =
-        asking_safe to user bytes wanted xo retries (next_number n.atp.requester) refl
+        asking_safe to user bytes wanted xo retries (next_number n.atp.transactions.requester) refl
 
-    begins_safe : (kind : Which) (router : ℕ) (tid : Option ℕ) → next_number n.atp.requester ≡ tid
+    begins_safe : (kind : Which) (router : ℕ) (tid : Option ℕ) → next_number n.atp.transactions.requester ≡ tid
         → Calling (reading_begins n.seat n.atp kind router tid)
     begins_safe kind router None is = refused_full is
     begins_safe kind router (Some tid) is =
@@ -117,7 +125,7 @@ module _ (A : Type 0) (n : NodeState) where
         → Calling (zones_called n.seat n.atp kind router reading)
     zones_safe kind None reading = refused A IsPlaceOfCall n n.atp (OfNodes nodes.NoRouter) tt
     zones_safe kind (Some router) (Some r) = refused A IsPlaceOfCall n n.atp (OfNodes nodes.StillReading) tt
-    zones_safe kind (Some router) None = begins_safe kind router (next_number n.atp.requester) refl
+    zones_safe kind (Some router) None = begins_safe kind router (next_number n.atp.transactions.requester) refl
 
   -- ---- the timer
 
@@ -126,7 +134,8 @@ module _ (A : Type 0) (n : NodeState) where
     Safe o = IsSafe Wants n n.atp o
 
     retry_at : (tid : ℕ) (o : Option Transaction)
-        → Safe (retry_fired n.seat n.atp tid (option_map (λ t. retried_with n.atp.requester tid t t.retries) o))
+        → Safe (retry_fired n.seat n.atp tid (option_map
+        (λ t. retried_with n.atp.transactions.requester tid t t.retries) o))
     retry_at tid None = refused A Wants n n.atp (OfTransactions atps.NoSuch) tt
     retry_at tid (Some t) = go t.retries
       where
@@ -134,33 +143,36 @@ module _ (A : Type 0) (n : NodeState) where
         fails after true = quiet A Wants n n.atp (after_failing n.atp tid after true) refl (omega arith)
         fails after false = quiet A Wants n n.atp (after_failing n.atp tid after false) refl (omega arith)
 
-        go : (left : ℕ) → Safe (retry_fired n.seat n.atp tid (Some (retried_with n.atp.requester tid t left)))
-        go zero = fails (retried_with n.atp.requester tid t zero).after (is_reading n.atp.reading tid)
+        go : (left : ℕ) → Safe (retry_fired n.seat n.atp tid
+            (Some (retried_with n.atp.transactions.requester tid t left)))
+        go zero = fails (retried_with n.atp.transactions.requester tid t zero).after
+            (is_reading n.atp.zones.reading tid)
         go (suc left) =
             quiet A Wants n n.atp
-            (after_retry n.seat n.atp tid (retried_with n.atp.requester tid t (suc left)) retry.AskedAgain)
+            (after_retry n.seat n.atp tid (retried_with n.atp.transactions.requester tid t (suc left)) retry.AskedAgain)
             refl (omega arith)
 
-    pub retry_safe : (tid : ℕ) → Safe (retry_fired n.seat n.atp tid (retried n.atp.requester tid))
-    retry_safe tid = retry_at tid (find (is_numbered tid) n.atp.requester.standing)
+    pub retry_safe : (tid : ℕ) → Safe (retry_fired n.seat n.atp tid (retried n.atp.transactions.requester tid))
+    retry_safe tid = retry_at tid (find (is_numbered tid) n.atp.transactions.requester.standing)
 
     -- ---- packets
 
     heard_safe : (h : Heard A) (r : Report A) (reading : Option Reading) (o : Outcome A AtpState)
-        → length h.sent ≤ 1 → number_told r ≡ None → o ≡ after_heard n.seat n.atp h r reading → Safe o
+        → length h.sent ≤ 1 → number_told r ≡ None → o ≡ over (with_reading n.atp reading)
+        (after_heard n.seat n.atp.transactions h r) → Safe o
     heard_safe h r reading o one none is =
-        by A Wants n n.atp o (after_heard n.seat n.atp h r reading) is
-        (quiet A Wants n n.atp (after_heard n.seat n.atp h r reading) none
+        by A Wants n n.atp o (over (with_reading n.atp reading) (after_heard n.seat n.atp.transactions h r)) is
+        (quiet A Wants n n.atp (over (with_reading n.atp reading) (after_heard n.seat n.atp.transactions h r)) none
         (packets_few (asking_at n.seat.net n.seat.number) atp_kind h.sent 131070 (omega (arith, one))))
 
     faults_safe : (h : Heard A) (fault : ZipFault) (number : ℕ) (o : Outcome A AtpState) → length h.sent ≤ 1
         → zip.number_of fault ≡ Some number
-        → o ≡ after_heard n.seat n.atp h (report.Zones (zip_report.Fault number)) None
+        → o ≡ reading_ends n.seat n.atp h (report.Zones (zip_report.Fault number))
         → Safe o
     faults_safe h fault number o one numbered is =
-        by A Wants n n.atp o (after_heard n.seat n.atp h (report.Zones (zip_report.Fault number)) None) is
+        by A Wants n n.atp o (reading_ends n.seat n.atp h (report.Zones (zip_report.Fault number))) is
         (page_faulted A Wants n n.atp fault number
-        (after_heard n.seat n.atp h (report.Zones (zip_report.Fault number)) None) numbered
+        (reading_ends n.seat n.atp h (report.Zones (zip_report.Fault number))) numbered
         refl (packets_few (asking_at n.seat.net n.seat.number) atp_kind h.sent 131070 (omega (arith, one))))
 
     other_quiet : (tid : ℕ) (x : Step A) → number_told (reported_other tid x) ≡ None
@@ -174,18 +186,21 @@ module _ (A : Type 0) (n : NodeState) where
     takes_safe h from names q o one = go (nat_lt 1024 (length names + length q.names)) q.last
       where
         go : (long last : Bool)
-            → MatchBool long (o ≡ after_heard n.seat n.atp h (report.Zones (zip_report.Fault 34)) None)
-            (MatchBool last (o ≡ after_heard n.seat n.atp h (report.Zones (zip_report.List (table_read n.atp.reading)
-            (names ++ q.names))) None)
+            → MatchBool long (o ≡ reading_ends n.seat n.atp h (report.Zones (zip_report.Fault 34)))
+            (MatchBool last (o ≡ reading_ends n.seat n.atp h
+            (report.Zones (zip_report.List (table_read n.atp.zones.reading)
+            (names ++ q.names))))
             (AsksOn n.seat n.atp h from (names ++ q.names) o)) → Safe o
         go true last is = faults_safe h TooManyZones 34 o one refl is
         go false true is =
-            heard_safe h (report.Zones (zip_report.List (table_read n.atp.reading) (names ++ q.names))) None o one refl
+            heard_safe h (report.Zones (zip_report.List (table_read n.atp.zones.reading) (names ++ q.names))) None o one
+            refl
             is
         go false false on =
-            let asked = asks n.seat (record n.atp { requester = h.after })
-            (Some (record { which = table_read n.atp.reading; tid = on.tid; names = names ++ q.names }))
-            (page_transaction from (table_read n.atp.reading) (names ++ q.names) on.tid) in
+            let asked = over (with_reading n.atp (Some
+            (record { which = table_read n.atp.zones.reading; tid = on.tid; names = names ++ q.names })))
+            (asks n.seat (record n.atp.transactions { requester = h.after })
+            (page_transaction from (table_read n.atp.zones.reading) (names ++ q.names) on.tid)) in
             by A Wants n n.atp o asked on.outcome (quiet A Wants n n.atp asked refl (omega arith))
 
     reads_safe : (h : Heard A) (from : Address) (names : List (List ℕ)) (p : Packet) (o : Outcome A AtpState)
@@ -198,15 +213,16 @@ module _ (A : Type 0) (n : NodeState) where
     heard_at_requester from f o = go (is_page A n.atp from f)
       where
         h : Heard A
-        h = heard n.atp.requester from f
+        h = heard n.atp.transactions.requester from f
 
-        one : length (heard {A = A} n.atp.requester from f).sent ≤ 1
-        one = heard_one A n.atp.requester from f
+        one : length (heard {A = A} n.atp.transactions.requester from f).sent ≤ 1
+        one = heard_one A n.atp.transactions.requester from f
 
         go : (b : Bool)
-            → MatchBool b (ReadsPage n.seat n.atp h from (names_read n.atp.reading) (packet_in f) o)
-            (o ≡ hears_other n.seat n.atp (tid_of f) h) → Safe o
-        go true reads = reads_safe h from (names_read n.atp.reading) (packet_in f) o one reads
+            → MatchBool b (ReadsPage n.seat n.atp h from (names_read n.atp.zones.reading) (packet_in f) o)
+            (o ≡ over (with_transactions n.atp) (hears_other n.seat n.atp.transactions (tid_of f) h)) → Safe o
+        go true reads = reads_safe h from (names_read n.atp.zones.reading) (packet_in f) o one reads
         go false is =
-            heard_safe h (reported_other (tid_of f) (heard {A = A} n.atp.requester from f).step) n.atp.reading o one
-            (other_quiet (tid_of f) (heard {A = A} n.atp.requester from f).step) is
+            heard_safe h (reported_other (tid_of f) (heard {A = A} n.atp.transactions.requester from f).step)
+            n.atp.zones.reading o one
+            (other_quiet (tid_of f) (heard {A = A} n.atp.transactions.requester from f).step) is

@@ -10,7 +10,9 @@ use Rattle.at_ddp.specs.Posts.{put}
 use Rattle.at_ddp.proofs.PostLemmas.{put_same, put_itself}
 use Rattle.at_atp.specs.Network.{Happening, after}
 use Rattle.at_atp.specs.Transactions.{Transaction}
-use Rattle.at_transaction_socket.specs.AtpParts.{AtpState, asking, serving, zones_at}
+use Rattle.at_zone_socket.specs.AtpParts.{AtpState}
+use Rattle.at_transaction_socket.specs.TransactionSockets.{asking, serving}
+use Rattle.at_zone_socket.specs.ZoneSockets.{zones_at}
 use Rattle.at_node.specs.Numbers.{drawn_by}
 use Rattle.at_node.specs.Nodes.{NodeState}
 use Rattle.at_event.specs.Outcomes.{Outcome}
@@ -37,36 +39,38 @@ module _ (A : Type 0) (history : List Happening) (n : NodeState)
   -- the zone socket's records, once the service's are put
   zones_still : (rs : List Record)
       → put (after A history).responders (serving n.seat.net n.seat.number) rs (zones_at n.seat.net n.seat.number)
-      ≡ n.atp.zone_responder
+      ≡ n.atp.zones.zone_responder
   zones_still rs = ap (λ b. cond b rs ((after A history).responders (zones_at n.seat.net n.seat.number))) sockets_apart
       ∙ st.zones
 
   pub requesters_stay : (who : Address) → (after A history).requesters who
-      ≡ put (after A history).requesters (asking n.seat.net n.seat.number) n.atp.requester who
+      ≡ put (after A history).requesters (asking n.seat.net n.seat.number) n.atp.transactions.requester who
   requesters_stay who = put_itself (after A history).requesters
-      (asking n.seat.net n.seat.number) n.atp.requester st.requester who
+      (asking n.seat.net n.seat.number) n.atp.transactions.requester st.requester who
 
   pub with_service : (rs : List Record) (at : Address)
       → put (after A history).responders (serving n.seat.net n.seat.number) rs at
       ≡ put (put (after A history).responders (serving n.seat.net n.seat.number) rs)
-      (zones_at n.seat.net n.seat.number) n.atp.zone_responder at
+      (zones_at n.seat.net n.seat.number) n.atp.zones.zone_responder at
   with_service rs at = put_itself (put (after A history).responders (serving n.seat.net n.seat.number) rs)
-      (zones_at n.seat.net n.seat.number) n.atp.zone_responder (zones_still rs) at
+      (zones_at n.seat.net n.seat.number) n.atp.zones.zone_responder (zones_still rs) at
 
   pub with_served : (rs : List Record) (at : Address)
       → put (after A history).responders (zones_at n.seat.net n.seat.number) rs at
-      ≡ put (put (after A history).responders (serving n.seat.net n.seat.number) n.atp.service_responder)
+      ≡ put (put (after A history).responders (serving n.seat.net n.seat.number) n.atp.transactions.service_responder)
       (zones_at n.seat.net n.seat.number) rs at
   with_served rs at = put_same (after A history).responders
-      (put (after A history).responders (serving n.seat.net n.seat.number) n.atp.service_responder)
+      (put (after A history).responders (serving n.seat.net n.seat.number) n.atp.transactions.service_responder)
       (zones_at n.seat.net n.seat.number) rs at
-      (put_itself (after A history).responders (serving n.seat.net n.seat.number) n.atp.service_responder st.service at)
+      (put_itself (after A history).responders (serving n.seat.net n.seat.number) n.atp.transactions.service_responder
+      st.service at)
 
   pub responders_stay : (at : Address) → (after A history).responders at
-      ≡ put (put (after A history).responders (serving n.seat.net n.seat.number) n.atp.service_responder)
-      (zones_at n.seat.net n.seat.number) n.atp.zone_responder at
+      ≡ put (put (after A history).responders (serving n.seat.net n.seat.number) n.atp.transactions.service_responder)
+      (zones_at n.seat.net n.seat.number) n.atp.zones.zone_responder at
   responders_stay at = put_itself (after A history).responders
-      (serving n.seat.net n.seat.number) n.atp.service_responder st.service at ∙ with_service n.atp.service_responder at
+      (serving n.seat.net n.seat.number) n.atp.transactions.service_responder st.service at ∙ with_service
+      n.atp.transactions.service_responder at
 
   pub no_draw : (r : Report A) → drawn_by r ≡ None → (after A history).drawn
       ≡ (after A history).drawn ++ numbers_drawn (after A history).event (asking n.seat.net n.seat.number) (drawn_by r)

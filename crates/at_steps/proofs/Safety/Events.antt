@@ -21,8 +21,8 @@ use Rattle.at_event.specs.declared.names.NameTimer.TheVariants as nbp_timer
 use Rattle.at_event.specs.declared.streams.StreamTimer.TheVariants as adsp_timer
 use Rattle.at_event.specs.declared.fault.NodeFault.TheVariants as nodes
 use Rattle.at_event.specs.declared.service.Reply.{Reply}
-use Rattle.at_transaction_socket.specs.AtpHearing.{HearsAtp}
-use Rattle.at_transaction_socket.specs.AtpParts.{AtpState}
+use Rattle.at_zone_socket.specs.AtpHearing.{HearsAtp}
+use Rattle.at_zone_socket.specs.AtpParts.{AtpState, with_transactions, with_zones}
 use Rattle.at_node.specs.Hearing.{Hears, HearsIt, HearsMine}
 use Rattle.at_node.specs.Limits.{IsWithin}
 use Rattle.at_node.specs.NameCalls.{claim_called, find_called, finish_called, lookup_fired, register_called}
@@ -30,13 +30,13 @@ use Rattle.at_node.specs.NameCalls.{unregister_called}
 use Rattle.at_node.specs.NameHearing.{HearsNames}
 use Rattle.at_node.specs.Nodes.{NodeState, called, over_atp, over_finish, timed, with_atp, with_names, with_session}
 use Rattle.at_node.specs.Nodes.{with_streams}
-use Rattle.at_transaction_socket.specs.RequesterSocket.{ask_called, retry_fired}
+use Rattle.at_transaction_socket.specs.RequesterSocket.{ask_called}
+use Rattle.at_zone_socket.specs.AtpTimers.{retry_fired, release_fired}
 use Rattle.at_atp_requester.specs.Requests.{retried}
-use Rattle.at_transaction_socket.specs.Responders.{release_fired}
 use Rattle.at_transaction_socket.specs.ServiceSocket.{answer_called}
 use Rattle.at_node.specs.SessionCalls.{open_called, pick_called, picked_as}
-use Rattle.at_transaction_socket.specs.ZoneReading.{zones_called}
-use Rattle.at_transaction_socket.specs.ZoneSocket.{set_zones_called}
+use Rattle.at_zone_socket.specs.ZoneReading.{zones_called}
+use Rattle.at_zone_socket.specs.ZoneSocket.{set_zones_called}
 use Rattle.at_name_socket.specs.NameSockets.{SocketState}
 use Rattle.at_adsp_ends.specs.Tables.{EndTable}
 use Rattle.at_session.specs.Sessions.{address_at, is_listed, pattern_asked}
@@ -93,19 +93,19 @@ module _ (A : Type 0) (laws : Laws) (n : NodeState) (within : IsWithin n) where
 
   pub call_safe : (c : Call A) → Calling n (called n c)
   call_safe (Zones (zone.Read kind)) =
-      of_atp (zones_called n.seat n.atp kind n.seat.router n.atp.reading)
-      (requests.zones_safe A n laws.numbers kind n.seat.router n.atp.reading)
+      of_atp (zones_called n.seat n.atp kind n.seat.router n.atp.zones.reading)
+      (requests.zones_safe A n laws.numbers kind n.seat.router n.atp.zones.reading)
   call_safe (Zones (zone.Set kind names)) =
-      of_atp (set_zones_called n.atp n.atp.tables kind names)
-      (records.set_zones_safe A n IsPlaceOfCall kind names n.atp.tables)
+      of_atp (over (with_zones n.atp) (set_zones_called n.atp.zones n.atp.zones.tables kind names))
+      (records.set_zones_safe A n IsPlaceOfCall kind names n.atp.zones.tables)
   call_safe (Transactions (Ask node socket user bytes wanted xo retries)) =
       let to = at_socket n.seat node socket in
-      of_atp (ask_called n.seat n.atp to user bytes wanted xo retries)
+      of_atp (over (with_transactions n.atp) (ask_called n.seat n.atp.transactions to user bytes wanted xo retries))
       (requests.ask_safe A n laws.numbers to user bytes wanted xo retries (nat_lt 578 (length bytes)))
   call_safe (Transactions (Answer key packets)) =
-      of_atp (answer_called n.seat n.atp key packets)
+      of_atp (over (with_transactions n.atp) (answer_called n.seat n.atp.transactions key packets))
       (records.answer_safe A n IsPlaceOfCall laws.records key packets
-      (answer_fault n.atp.service_responder key packets) refl)
+      (answer_fault n.atp.transactions.service_responder key packets) refl)
   call_safe (Session (Pick zone)) =
       through A IsPlaceOfCall n (with_session n) n.session (pick_called n.session zone) refl
       (pick_safe zone (is_listed n.session zone))
@@ -144,7 +144,8 @@ module _ (A : Type 0) (laws : Laws) (n : NodeState) (within : IsWithin n) where
 
   pub timer_safe : (time : Timer) → Calling n (timed n time)
   timer_safe (timer.Transactions (atp_timer.Retry tid)) =
-      of_atp (retry_fired n.seat n.atp tid (retried n.atp.requester tid)) (requests.retry_safe A n IsPlaceOfCall tid)
+      of_atp (retry_fired n.seat n.atp tid (retried n.atp.transactions.requester tid))
+      (requests.retry_safe A n IsPlaceOfCall tid)
   timer_safe (timer.Transactions (atp_timer.Release own key)) =
       of_atp (release_fired n.atp own key) (records.release_safe A n IsPlaceOfCall own key)
   timer_safe (timer.Names (nbp_timer.Lookup id)) =

@@ -4,7 +4,8 @@ use Rattle.std.specs.List.{AllByRecursion, list_any}
 use Rattle.at_atp.specs.Network.{NoneHolds, after, done}
 use Rattle.at_atp.specs.Transactions as atp
 use Rattle.at_zip.specs.Tables.{AreTables}
-use Rattle.at_transaction_socket.specs.AtpParts.{asking, serving, zones_at}
+use Rattle.at_transaction_socket.specs.TransactionSockets.{asking, serving}
+use Rattle.at_zone_socket.specs.ZoneSockets.{zones_at}
 use Rattle.at_event.specs.Kinds.{IsCall}
 use Rattle.at_node.specs.Numbers.{IsTold, drawn_by, holds}
 use Rattle.at_node.specs.Hearing.{Hears}

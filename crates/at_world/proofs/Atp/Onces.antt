@@ -15,7 +15,7 @@ use Rattle.at_atp.specs.Network.{Network, Happening, Answers, Serves, AllTimely,
 use Rattle.at_atp_frame.specs.Packets.{Packet}
 use Rattle.at_atp.specs.Transactions.{Transaction, transaction_of, answered}
 use Rattle.at_atp_responder.specs.declared.reception.Key.{Key}
-use Rattle.at_transaction_socket.specs.AtpParts.{asking}
+use Rattle.at_transaction_socket.specs.TransactionSockets.{asking}
 use Rattle.at_event.specs.declared.Call.TheVariants.{Transactions}
 use Rattle.at_event.specs.declared.transactions.TransactionCall.TheVariants.{Answer}
 use Rattle.at_event.specs.declared.Report.{Report}

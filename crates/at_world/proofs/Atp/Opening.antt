@@ -8,7 +8,7 @@ use Rattle.at_ddp.specs.declared.address.Address.{Address}
 use Rattle.at_atp_requester.specs.Requests.{no_requests}
 use Rattle.at_zip.specs.Tables.{Tables, AreTables}
 use Rattle.at_zip.specs.declared.request.Which.TheVariants.{All, Local}
-use Rattle.at_transaction_socket.specs.AtpParts.{Reading}
+use Rattle.at_zone_socket.specs.ZoneSockets.{Reading}
 use Rattle.at_node.specs.Nodes.{NodeState, opening}
 use Rattle.at_setup.specs.declared.setup.NodeSetup.{NodeSetup}
 use Rattle.at_setup.specs.declared.setup.Setup.{Setup}
@@ -42,7 +42,7 @@ router_counts (x ∷ ns) k is = rw (routers-cons x ns) (go (router_counts ns k) 
 module _ (A : Type 0) (s : Setup A) where
   -- of at most one router, a node that has a table is the first
   router_is : (ns : List NodeSetup) → count_by (λ n. n.router) ns ≤ 1 → (k : ℕ) (n : NodeState)
-      → find (is_numbered k) (map (opening_node s) ns) ≡ Some n → (t : Tables) → n.atp.tables ≡ Some t
+      → find (is_numbered k) (map (opening_node s) ns) ≡ Some n → (t : Tables) → n.atp.zones.tables ≡ Some t
       → router_of ns ≡ Some k
   router_is [] few k n h t has = absurd (cc)
   router_is (x ∷ ns) few k n h t has = go (λ less g. router_is ns less k n g t has) x.router (x.node == k) refl
@@ -60,12 +60,12 @@ module _ (A : Type 0) (s : Setup A) where
       go ih true false e less g = let one = router_counts ns k (ih (omega (arith, less)) g) in
           absurd (omega (arith, one, less))
       go ih false true e less g = let same : opened false ≡ n = cc in let none : None
-          ≡ Some t = ap (λ (y : NodeState). y.atp.tables) same ∙ has in absurd (cc)
+          ≡ Some t = ap (λ (y : NodeState). y.atp.zones.tables) same ∙ has in absurd (cc)
       go ih false false e less g = ih (omega (arith, less)) g
 
   -- the tables of a node that has them are those of the setup
   tables_are : (ns : List NodeSetup) (k : ℕ) (n : NodeState) → find (is_numbered k) (map (opening_node s) ns) ≡ Some n
-      → (t : Tables) → n.atp.tables ≡ Some t → t ≡ tables_of s
+      → (t : Tables) → n.atp.zones.tables ≡ Some t → t ≡ tables_of s
   tables_are [] k n h t has = absurd (cc)
   tables_are (x ∷ ns) k n h t has = go (λ g. tables_are ns k n g t has) x.router (x.node == k) h
     where
@@ -74,8 +74,10 @@ module _ (A : Type 0) (s : Setup A) where
           (cond b (Some (tables_of s)) None) (cond b (Some (neighbours_of s.nodes)) None) (rooms_of x)
 
       of_one : (b : Bool) → opened b ≡ n → t ≡ tables_of s
-      of_one true same = let some : Some (tables_of s) ≡ Some t = ap (λ (y : NodeState). y.atp.tables) same ∙ has in cc
-      of_one false same = let none : None ≡ Some t = ap (λ (y : NodeState). y.atp.tables) same ∙ has in absurd (cc)
+      of_one true same = let some : Some (tables_of s) ≡ Some t = ap (λ (y : NodeState). y.atp.zones.tables) same ∙ has
+          in cc
+      of_one false same = let none : None ≡ Some t = ap (λ (y : NodeState). y.atp.zones.tables) same ∙ has in absurd
+          (cc)
 
       go : (find (is_numbered k) (map (opening_node s) ns) ≡ Some n → t ≡ tables_of s) → (b c : Bool)
           → cond c (Some (opened b)) (find (is_numbered k) (map (opening_node s) ns)) ≡ Some n → t ≡ tables_of s
@@ -112,14 +114,15 @@ module _ (A : Type 0) (s : Setup A) where
       go ih false = ih
 
   nothing_read : (ns : List NodeSetup) (k : ℕ) (n : NodeState) → find (is_numbered k) (map (opening_node s) ns)
-      ≡ Some n → n.atp.reading ≡ None
+      ≡ Some n → n.atp.zones.reading ≡ None
   nothing_read [] k n h = absurd (cc)
   nothing_read (x ∷ ns) k n h = go (nothing_read ns k n) (x.node == k) h
     where
-      go : (find (is_numbered k) (map (opening_node s) ns) ≡ Some n → n.atp.reading ≡ None) → (b : Bool)
-          → cond b (Some (opening_node s x)) (find (is_numbered k) (map (opening_node s) ns)) ≡ Some n → n.atp.reading
+      go : (find (is_numbered k) (map (opening_node s) ns) ≡ Some n → n.atp.zones.reading ≡ None) → (b : Bool)
+          → cond b (Some (opening_node s x)) (find (is_numbered k) (map (opening_node s) ns)) ≡ Some n
+          → n.atp.zones.reading
           ≡ None
-      go ih true g = let same : opening_node s x ≡ n = cc in ap (λ (y : NodeState). y.atp.reading) (sym same)
+      go ih true g = let same : opening_node s x ≡ n = cc in ap (λ (y : NodeState). y.atp.zones.reading) (sym same)
       go ih false g = ih g
 
   requester_opens : (who : Address) → no_requests ≡ requester_at s.net (map (opening_node s) s.nodes) who

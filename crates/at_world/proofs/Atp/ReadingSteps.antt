@@ -9,7 +9,8 @@ use Rattle.std.proofs.lemmas.List.{length-append}
 use Rattle.at_zip.specs.Reading.{BeginsTable}
 use Rattle.at_zip.specs.Tables.{table_of}
 use Rattle.at_zip.specs.declared.request.Which.{Which}
-use Rattle.at_transaction_socket.specs.AtpParts.{Reading as ZoneReading, asking, zones_at}
+use Rattle.at_zone_socket.specs.ZoneSockets.{Reading as ZoneReading, zones_at}
+use Rattle.at_transaction_socket.specs.TransactionSockets.{asking}
 use Rattle.at_node.specs.Nodes.{NodeState}
 use Rattle.at_event.specs.declared.Call.TheVariants.{Zones}
 use Rattle.at_event.specs.declared.zones.ZoneCall.TheVariants as zone
@@ -40,7 +41,7 @@ use Rattle.at_world.proofs.Atp.Staying.{Allows, so_at, tables_kept, still_theirs
 module _ (A : Type 0) (laws : Laws A) (w : WorldState) (cable : Cable) (m : AtpMachine) (wires : List Wire)
     (e : Event A) (n x : NodeState) (r : Report A) (t : AtpTie A w cable wires m)
     (stands : node_at w (node_of e) ≡ Some n)
-    (keeps : sets_table r ≡ false → x.atp.tables ≡ n.atp.tables) where
+    (keeps : sets_table r ≡ false → x.atp.zones.tables ≡ n.atp.zones.tables) where
   -- what a step is in words of transactions
   abbrev Changed : List atp.Transaction → Change A
   Changed ts =
@@ -48,7 +49,7 @@ module _ (A : Type 0) (laws : Laws A) (w : WorldState) (cable : Cable) (m : AtpM
 
   -- ---- readings that end
 
-  no_longer : (ts : List atp.Transaction) → ts ≡ map wired m.asked → x.atp.reading ≡ None → sets_table r ≡ false
+  no_longer : (ts : List atp.Transaction) → ts ≡ map wired m.asked → x.atp.zones.reading ≡ None → sets_table r ≡ false
       → Allows cable m e r (moved m m.tables m.asked (without_reading m.readings (node_of e))) → IsSaid e r
       × Stepped A cable m e x r ts
   no_longer ts same none sets allows = (
@@ -74,7 +75,7 @@ module _ (A : Type 0) (laws : Laws A) (w : WorldState) (cable : Cable) (m : AtpM
     },
   )
 
-  reads : (read : ZoneReading) → n.atp.reading ≡ Some read
+  reads : (read : ZoneReading) → n.atp.zones.reading ≡ Some read
       → Reads cable.net cable.router m.past m.asked m.readings (node_of e) read
   reads read is = subst (IsReading cable m (node_of e)) is (t.readings (node_of e) n stands)
 

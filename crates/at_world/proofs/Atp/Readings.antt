@@ -18,8 +18,9 @@ use Rattle.at_zip.specs.Tables.{Tables, AreTables, table_of, with_table}
 use Rattle.at_zip.specs.Zones.{IsTable}
 use Rattle.at_zip.specs.declared.request.Which.{Which}
 use Rattle.at_zip.specs.declared.fault.ZipFault.{ZipFault}
-use Rattle.at_transaction_socket.specs.AtpParts.{Reading as ZoneReading, asking, zones_at}
-use Rattle.at_transaction_socket.specs.ZoneSocket.{page_packet}
+use Rattle.at_zone_socket.specs.ZoneSockets.{Reading as ZoneReading, zones_at}
+use Rattle.at_transaction_socket.specs.TransactionSockets.{asking}
+use Rattle.at_zone_socket.specs.ZoneSocket.{page_packet}
 use Rattle.at_steps.specs.AtpSteps.{page_answer}
 use Rattle.at_world.specs.AtpGuards.{Reading, MayAskFor, ReadsSince, StoodSince, reading_of}
 use Rattle.at_world.specs.Agreements.{on_wire}

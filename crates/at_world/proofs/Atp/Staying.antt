@@ -6,7 +6,8 @@ use Rattle.at_ddp.specs.Address.{same_address}
 use Rattle.at_ddp.specs.declared.address.Address.{Address}
 use Rattle.at_atp.specs.Transactions as atp
 use Rattle.at_zip.specs.Tables.{Tables, AreTables}
-use Rattle.at_transaction_socket.specs.AtpParts.{Reading as ZoneReading, asking, zones_at}
+use Rattle.at_zone_socket.specs.ZoneSockets.{Reading as ZoneReading, zones_at}
+use Rattle.at_transaction_socket.specs.TransactionSockets.{asking}
 use Rattle.at_node.specs.Nodes.{NodeState}
 use Rattle.at_event.specs.Kinds.{reporter_of}
 use Rattle.at_event.specs.declared.Report.{Report}
@@ -72,12 +73,12 @@ plain_sets_none act r h = refl
 module _ (A : Type 0) (laws : Laws A) (w : WorldState) (cable : Cable) (m : AtpMachine) (wires : List Wire)
     (e : Event A) (n x : NodeState) (r : Report A) (t : AtpTie A w cable wires m)
     (stands : node_at w (node_of e) ≡ Some n)
-    (keeps : sets_table r ≡ false → x.atp.tables ≡ n.atp.tables) where
+    (keeps : sets_table r ≡ false → x.atp.zones.tables ≡ n.atp.zones.tables) where
   -- ---- readings and tables that stay
 
   -- the newest transaction by which the node reads stays what it was
   abbrev pub StaysMine : Tables → List Transaction → Type 0
-  StaysMine tables ts = (read : ZoneReading) (server : ℕ) → n.atp.reading ≡ Some read
+  StaysMine tables ts = (read : ZoneReading) (server : ℕ) → n.atp.zones.reading ≡ Some read
       → StaysAsked tables m.asked ts (asking cable.net (node_of e)) read.tid (zones_at cable.net server)
 
   -- and so do those of the other nodes
@@ -86,8 +87,8 @@ module _ (A : Type 0) (laws : Laws A) (w : WorldState) (cable : Cable) (m : AtpM
       → StaysAsked tables m.asked ts (asking cable.net j) tid (zones_at cable.net server)
 
   pub still_mine : (tables : Tables) (ts : List Transaction) → AreTables tables → StaysMine tables ts
-      → IsReading cable (moved m tables ts m.readings) (node_of e) n.atp.reading
-  still_mine tables ts are stays = go n.atp.reading (t.readings (node_of e) n stands) stays
+      → IsReading cable (moved m tables ts m.readings) (node_of e) n.atp.zones.reading
+  still_mine tables ts are stays = go n.atp.zones.reading (t.readings (node_of e) n stands) stays
     where
       go : (reading : Option ZoneReading) → IsReading cable m (node_of e) reading
           → ((read : ZoneReading) (server : ℕ) → reading ≡ Some read
@@ -103,7 +104,8 @@ module _ (A : Type 0) (laws : Laws A) (w : WorldState) (cable : Cable) (m : AtpM
 
   -- the tables stay, and so does the reading of the node
   pub goes_by : (ts : List Transaction) (now : List atp.Transaction) → now ≡ map wired ts → AskWell ts
-      → x.atp.reading ≡ n.atp.reading → sets_table r ≡ false → StaysMine m.tables ts → StaysTheirs m.tables ts
+      → x.atp.zones.reading ≡ n.atp.zones.reading → sets_table r ≡ false → StaysMine m.tables ts → StaysTheirs m.tables
+      ts
       → Allows cable m e r (moved m m.tables ts m.readings) → IsSaid e r × Stepped A cable m e x r now
   goes_by ts now same well reading none mine theirs allows = (
     allows.0,
@@ -127,7 +129,7 @@ module _ (A : Type 0) (laws : Laws A) (w : WorldState) (cable : Cable) (m : AtpM
     },
   )
 
-  pub nothing_asked : (now : List atp.Transaction) → now ≡ map wired m.asked → x.atp.reading ≡ n.atp.reading
+  pub nothing_asked : (now : List atp.Transaction) → now ≡ map wired m.asked → x.atp.zones.reading ≡ n.atp.zones.reading
       → sets_table r ≡ false → Allows cable m e r (next m) → IsSaid e r × Stepped A cable m e x r now
   nothing_asked now same reading none allows =
       goes_by m.asked now same t.ask_well reading none

@@ -8,7 +8,9 @@ use Rattle.at_atp.specs.Transactions as atp
 use Rattle.at_zip.specs.Request.{RequestSpells}
 use Rattle.at_zip.specs.Tables.{Tables, AreTables, table_of, with_table}
 use Rattle.at_zip.specs.declared.request.Which.{Which}
-use Rattle.at_transaction_socket.specs.AtpParts.{AtpState, asking, serving, zones_at}
+use Rattle.at_zone_socket.specs.AtpParts.{AtpState}
+use Rattle.at_transaction_socket.specs.TransactionSockets.{asking, serving}
+use Rattle.at_zone_socket.specs.ZoneSockets.{zones_at}
 use Rattle.at_node.specs.Nodes.{NodeState}
 use Rattle.at_event.specs.Kinds.{reporter_of}
 use Rattle.at_event.specs.declared.Call.TheVariants.{Transactions, Zones}
@@ -46,7 +48,7 @@ use Rattle.at_world.proofs.Atp.ReadingSteps.{fails_step, reading_ends_step, read
 module _ (A : Type 0) (laws : Laws A) (w : WorldState) (cable : Cable) (m : AtpMachine) (wires : List Wire)
     (e : Event A) (n x : NodeState) (r : Report A) (t : AtpTie A w cable wires m)
     (stands : node_at w (node_of e) ≡ Some n)
-    (keeps : sets_table r ≡ false → x.atp.tables ≡ n.atp.tables) where
+    (keeps : sets_table r ≡ false → x.atp.zones.tables ≡ n.atp.zones.tables) where
   -- what a step is in words of transactions
   abbrev Changed : List atp.Transaction → Change A
   Changed ts =
@@ -305,10 +307,10 @@ module _ (A : Type 0) (laws : Laws A) (w : WorldState) (cable : Cable) (m : AtpM
       ask_well = t.ask_well;
       allows = allows;
       spelled = nothing_served other;
-      here = λ tables is. t.tables (node_of e) n stands tables (ap (λ (a : AtpState). a.tables) (sym part) ∙ is);
+      here = λ tables is. t.tables (node_of e) n stands tables (ap (λ (a : AtpState). a.zones.tables) (sym part) ∙ is);
       elsewhere = λ j y apart h. h;
       reading = subst (IsReading cable (moved m m.tables m.asked m.readings) (node_of e))
-          (ap (λ (a : AtpState). a.reading) (sym part))
+          (ap (λ (a : AtpState). a.zones.reading) (sym part))
           (still_mine A laws w cable m wires e n x r t stands keeps m.tables m.asked t.are_tables
           (λ read server is. all_stays m.tables m.asked (asking cable.net (node_of e)) read.tid
           (zones_at cable.net server)));

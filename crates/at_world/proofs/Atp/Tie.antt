@@ -17,7 +17,8 @@ use Rattle.at_atp.specs.Transactions as atp
 use Rattle.at_zip.specs.Tables.{Tables, AreTables, table_of}
 use Rattle.at_event.specs.Kinds.{IsCall}
 use Rattle.at_node.specs.Numbers.{Carries, drawn_by, holds}
-use Rattle.at_transaction_socket.specs.AtpParts.{Reading as ZoneReading, asking, serving, zones_at}
+use Rattle.at_zone_socket.specs.ZoneSockets.{Reading as ZoneReading, zones_at}
+use Rattle.at_transaction_socket.specs.TransactionSockets.{asking, serving}
 use Rattle.at_node.specs.Hearing.{Hears}
 use Rattle.at_event.specs.Kinds.{kind_of_call, kind_of_timer, reporter_of}
 use Rattle.at_node.specs.Nodes.{NodeState, called, timed}
@@ -83,7 +84,8 @@ pub record Laws (A : Type 0) : Type 0 where
       → Stands A history n.seat.net n.seat.number n → IsForeign n act o
       → Passes A history n.seat.net n.seat.number n act o
   pub unheld : (net k tid : ℕ) (n : NodeState) → holds n k (Tid tid) ≡ false
-      → HoldsNo (asking net k) tid n.atp.service_responder × HoldsNo (asking net k) tid n.atp.zone_responder
+      → HoldsNo (asking net k) tid n.atp.transactions.service_responder × HoldsNo (asking net k) tid
+      n.atp.zones.zone_responder
   pub carries : (to from : Address) (f : Content) → IsAddress to → IsAddress from → IsLawful f
       → Carries (canonical to from atp_kind (spelled f)) (owner from to f).node (Tid (number_of f))
   pub lawful_sent : (history : List Happening) → AllByRecursion IsInRange history
@@ -94,7 +96,7 @@ pub record Laws (A : Type 0) : Type 0 where
 
 -- a node that has zone tables is the router, and they are the machine's
 abbrev pub HasTables : Cable → Tables → ℕ → NodeState → Type 0
-HasTables c tables k n = (t : Tables) → n.atp.tables ≡ Some t → (t ≡ tables) × (c.router ≡ Some k)
+HasTables c tables k n = (t : Tables) → n.atp.zones.tables ≡ Some t → (t ≡ tables) × (c.router ≡ Some k)
 
 abbrev pub IsReading : Cable → AtpMachine → ℕ → Option ZoneReading → Type 0
 IsReading c m k None = Unit {0}
@@ -114,7 +116,7 @@ pub record AtpTie (A : Type 0) (w : WorldState) (c : Cable) (wires : List Wire) 
   pub ask_well : AskWell m.asked
   pub tables : (k : ℕ) (n : NodeState) → node_at w k ≡ Some n → HasTables c m.tables k n
   pub opened : (k : ℕ) (n : NodeState) → node_at w k ≡ Some n → IsOpen n.atp
-  pub readings : (k : ℕ) (n : NodeState) → node_at w k ≡ Some n → IsReading c m k n.atp.reading
+  pub readings : (k : ℕ) (n : NodeState) → node_at w k ≡ Some n → IsReading c m k n.atp.zones.reading
   pub on_net : AllByRecursion (IsOn c.net) (map wired m.asked)
 
 -- the machine a moment later, with these tables, transactions and readings
@@ -141,7 +143,7 @@ pub record Becomes (A : Type 0) (c : Cable) (m : AtpMachine) (e : Event A) (x : 
   pub spelled : Spelled c m e r (moved m tables asked readings)
   pub here : HasTables c tables (node_of e) x
   pub elsewhere : (j : ℕ) (y : NodeState) → (node_of e == j) ≡ false → HasTables c m.tables j y → HasTables c tables j y
-  pub reading : IsReading c (moved m tables asked readings) (node_of e) x.atp.reading
+  pub reading : IsReading c (moved m tables asked readings) (node_of e) x.atp.zones.reading
   pub others : (j : ℕ) → (node_of e == j) ≡ false → reading_of readings j ≡ reading_of m.readings j
   pub still : (j tid server : ℕ) → (node_of e == j) ≡ false
       → StaysAsked tables m.asked asked (asking c.net j) tid (zones_at c.net server)
@@ -235,14 +237,15 @@ module _ (A : Type 0) (laws : Laws A) (w : WorldState) (c : Cable) (wires : List
       events = ap (λ i. i + 1) (t.events ∙ sym h.same_event);
       requesters = λ who. h.requesters who
           ∙ put_same (after A t.history).requesters (requester_at c.net w.nodes)
-          (asking c.net (node_of e)) o.state.atp.requester who (t.requesters who)
+          (asking c.net (node_of e)) o.state.atp.transactions.requester who (t.requesters who)
           ∙ sym (requester_after c.net w.nodes (node_of e) n o.state mine.number stands who);
       responders = λ at. h.responders at
-          ∙ put_same (put (after A t.history).responders (serving c.net (node_of e)) o.state.atp.service_responder)
-          (put (records_at c.net w.nodes) (serving c.net (node_of e)) o.state.atp.service_responder)
-          (zones_at c.net (node_of e)) o.state.atp.zone_responder at
+          ∙ put_same (put (after A t.history).responders (serving c.net (node_of e))
+          o.state.atp.transactions.service_responder)
+          (put (records_at c.net w.nodes) (serving c.net (node_of e)) o.state.atp.transactions.service_responder)
+          (zones_at c.net (node_of e)) o.state.atp.zones.zone_responder at
           (put_same (after A t.history).responders (records_at c.net w.nodes)
-          (serving c.net (node_of e)) o.state.atp.service_responder at (t.responders at))
+          (serving c.net (node_of e)) o.state.atp.transactions.service_responder at (t.responders at))
           ∙ sym (records_after c.net w.nodes (node_of e) n o.state mine.number stands at);
       sent = subst (Entries atp_coding (wires ++ map (wire w.events) o.out)) (sym h.sent)
           (entries_both atp_coding wires (map (wire w.events) o.out) (after A t.history).sent h.more t.sent
@@ -256,9 +259,10 @@ module _ (A : Type 0) (laws : Laws A) (w : WorldState) (c : Cable) (wires : List
       opened = λ j y is. found_after (node_of e) j o.state n y w.nodes (λ z. IsOpen z.atp) mine.number stands is
           (λ same. h.is_open) (λ apart g. t.opened j y g);
       readings = λ j y is. found_after (node_of e) j o.state n y w.nodes
-          (λ z. IsReading c (moved m b.tables asked b.readings) j z.atp.reading) mine.number stands is
-          (λ same. subst (λ i. IsReading c (moved m b.tables asked b.readings) i o.state.atp.reading) same b.reading)
-          (λ apart g. reading_kept j y y.atp.reading apart (t.readings j y g));
+          (λ z. IsReading c (moved m b.tables asked b.readings) j z.atp.zones.reading) mine.number stands is
+          (λ same. subst (λ i. IsReading c (moved m b.tables asked b.readings) i o.state.atp.zones.reading) same
+          b.reading)
+          (λ apart g. reading_kept j y y.atp.zones.reading apart (t.readings j y g));
       on_net = subst (AllByRecursion (IsOn c.net)) is_asked h.on_net;
     },
     refl,
@@ -272,7 +276,7 @@ module _ (A : Type 0) (laws : Laws A) (w : WorldState) (c : Cable) (wires : List
     (
       h.happening,
       now.1,
-      with_tables A c.net (node_of e) n.atp.tables m.tables (after A t.history) h.happening
+      with_tables A c.net (node_of e) n.atp.zones.tables m.tables (after A t.history) h.happening
           (act_of e) o.report (λ tables is. (t.tables (node_of e) n stands tables is).0) h.matches,
       (h.more, h.sent),
       b.spelled,

@@ -11,7 +11,7 @@ use Rattle.at_atp.specs.Network as network
 use Rattle.at_atp.specs.Network.{Drawn, NoneHolds}
 use Rattle.at_atp_responder.specs.Records.{Record}
 use Rattle.at_node.specs.Numbers.{holds}
-use Rattle.at_transaction_socket.specs.AtpParts.{asking}
+use Rattle.at_transaction_socket.specs.TransactionSockets.{asking}
 use Rattle.at_node.specs.Nodes.{NodeState}
 use Rattle.at_node.specs.declared.numbers.Draw.{Draw}
 use Rattle.at_node.specs.declared.numbers.Draw.TheVariants.{Conn, Lookup, Tid}
@@ -90,7 +90,8 @@ not_held k draw j n (y ∷ ys) h is =
 -- what is promised of a number that a node does not hold
 abbrev pub Unheld : Type 0
 Unheld = (net k tid : ℕ) (n : NodeState) → holds n k (Tid tid) ≡ false
-    → HoldsNo (asking net k) tid n.atp.service_responder × HoldsNo (asking net k) tid n.atp.zone_responder
+    → HoldsNo (asking net k) tid n.atp.transactions.service_responder × HoldsNo (asking net k) tid
+    n.atp.zones.zone_responder
 
 none_held_by : (unheld : Unheld) (net k tid : ℕ) (o : Option NodeState) (nodes : List NodeState) (j : ℕ)
     → list_any (λ x. holds x k (Tid tid)) nodes ≡ false → find (is_numbered j) nodes ≡ o

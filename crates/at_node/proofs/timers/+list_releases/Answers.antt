@@ -1,7 +1,7 @@
 use Rattle.std.proofs.Common.{[], arith}
 use Rattle.std.specs.Prelude.{option_map}
 use Rattle.at_atp_responder.specs.Records.{expiring_key}
-use Rattle.at_transaction_socket.specs.Responders.{records_at}
+use Rattle.at_zone_socket.specs.AtpTimers.{records_at}
 use Rattle.at_node.specs.Timers.{release_of}
 use Rattle.at_node.proofs.AddingLemmas.{adds_as, adds_begun, adds_both}
 use Rattle.at_node.proofs.TimerLemmas.{filter_next}

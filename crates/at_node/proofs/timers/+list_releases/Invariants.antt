@@ -1,5 +1,5 @@
 use Rattle.std.proofs.Common.{◌-◌, length}
-use Rattle.at_transaction_socket.specs.Responders.{records_at}
+use Rattle.at_zone_socket.specs.AtpTimers.{records_at}
 use Rattle.at_node.proofs.timers.+list_releases.Given as goal
 
 abbrev pub decreases-list_releases : goal.decreases-list_releases

@@ -7,6 +7,6 @@ use Rattle.at_node.proofs.timers.+list_retries.Goals as goal
 
 pub returns : goal.returns
 returns g t c = adds_as _ _ _ _ _
-    (map_next retry_of (λ (x : Transaction). x.tid) [] c.args.part.now.requester.standing c.args.place
+    (map_next retry_of (λ (x : Transaction). x.tid) [] c.args.part.now.transactions.requester.standing c.args.place
     c.number_at-tid.result (omega (arith, c.open_count.ensures, c.if-place-open_count.false)) c.number_at-tid.ensures)
     (adds_both _ _ _ _ _ _ _ c.in_ok-list_one.ensures c.list_retries.ensures)

@@ -6,7 +6,7 @@ use Rattle.at_event.specs.declared.Call.{Call}
 use Rattle.at_event.specs.declared.Call.TheVariants.{Names}
 use Rattle.at_event.specs.declared.names.NameCall.TheVariants.{Register, Unregister}
 use Rattle.at_event.proofs.OutcomeLemmas.{step_over}
-use Rattle.at_node.proofs.Opened.{opened}
+use Rattle.at_zone_socket.proofs.Opened.{opened}
 use Rattle.at_node.proofs.node.Node.call_names.Goals as goal
 
 pub returns-in-Register : goal.returns-in-Register

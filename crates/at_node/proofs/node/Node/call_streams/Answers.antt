@@ -6,7 +6,7 @@ use Rattle.at_event.specs.declared.streams.StreamCall.TheVariants.{Listen}
 use Rattle.at_node.specs.Nodes.{NodeState, called, with_streams}
 use Rattle.at_stream_socket.specs.Calls.{listen_called}
 use Rattle.at_event.proofs.OutcomeLemmas.{step_over}
-use Rattle.at_node.proofs.Opened.{opened}
+use Rattle.at_zone_socket.proofs.Opened.{opened}
 use Rattle.at_node.proofs.node.Node.call_streams.Goals as goal
 
 pub returns-in-Listen : goal.returns-in-Listen

@@ -1,5 +1,5 @@
 use Rattle.std.proofs.Common.{◌≡◌, ◌∙◌, Some, None, ap, subst, sym}
-use Rattle.at_transaction_socket.specs.Turning.{HasTurn}
+use Rattle.at_zone_socket.specs.Turning.{HasTurn}
 use Rattle.at_node.specs.Nodes.{NodeState}
 use Rattle.at_node.specs.declared.numbers.Draw.TheVariants.{Tid}
 use Rattle.at_node.proofs.NumberLemmas.{nat_same}

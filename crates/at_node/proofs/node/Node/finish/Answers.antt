@@ -3,7 +3,7 @@ use Rattle.at_event.specs.Outcomes.{IsStep}
 use Rattle.at_node.specs.NameCalls.{finish_called}
 use Rattle.at_node.specs.Nodes.{NodeState, over_finish}
 use Rattle.at_node.proofs.SessionLemmas.{finds_are_told, finish_over}
-use Rattle.at_node.proofs.Opened.{opened}
+use Rattle.at_zone_socket.proofs.Opened.{opened}
 use Rattle.at_node.proofs.node.Node.finish.Goals as goal
 
 pub keep_finds-requires : goal.keep_finds-requires

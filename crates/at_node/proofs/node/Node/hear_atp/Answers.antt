@@ -1,9 +1,9 @@
 use Rattle.std.proofs.Common.{subst, sym}
 use Rattle.at_event.specs.Outcomes.{Comes, Through}
-use Rattle.at_transaction_socket.specs.AtpHearing.{HearsAtp}
-use Rattle.at_transaction_socket.specs.AtpParts.{AtpState}
+use Rattle.at_zone_socket.specs.AtpHearing.{HearsAtp}
+use Rattle.at_zone_socket.specs.AtpParts.{AtpState}
 use Rattle.at_node.specs.Nodes.{NodeState, over_atp}
-use Rattle.at_node.proofs.Opened.{opened}
+use Rattle.at_zone_socket.proofs.Opened.{opened}
 use Rattle.at_node.proofs.SessionLemmas.{heard_over}
 use Rattle.at_node.proofs.node.Node.hear_atp.Goals as goal
 

@@ -7,14 +7,14 @@ use Rattle.at_event.specs.Outcomes.{Comes, Over, Through}
 use Rattle.at_event.specs.declared.service.Reply.TheVariants.{Later}
 use Rattle.at_packet.specs.Bodies.{datagram_of}
 use Rattle.at_stream_socket.specs.Hearing.{HearsStreams}
-use Rattle.at_transaction_socket.specs.AtpHearing.{HearsAtp}
+use Rattle.at_zone_socket.specs.AtpHearing.{HearsAtp}
 use Rattle.at_node.specs.Hearing.{HearsIt}
 use Rattle.at_node.specs.NameHearing.{HearsNames}
 use Rattle.at_node.specs.Nodes.{NodeState, over_atp, with_names, with_streams}
 use Rattle.at_node.proofs.BodyLemmas.{adsp_of, atp_of, for_seat, is_for, nbp_of, other_kind, other_of}
 use Rattle.at_event.proofs.OutcomeLemmas.{comes_ignored, comes_over, comes_wider}
 use Rattle.at_event.proofs.ServedLemmas.{not_served}
-use Rattle.at_node.proofs.Opened.{opened}
+use Rattle.at_zone_socket.proofs.Opened.{opened}
 use Rattle.at_node.proofs.node.Node.hear_body.Goals as goal
 
 pub returns-then-not-is_for : goal.returns-then-not-is_for

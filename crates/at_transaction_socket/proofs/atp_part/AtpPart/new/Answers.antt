@@ -1,5 +1,0 @@
-use Rattle.std.proofs.Common.{rules}
-use Rattle.at_transaction_socket.proofs.atp_part.AtpPart.new.Goals as goal
-
-pub returns : goal.returns
-returns g c = search rules

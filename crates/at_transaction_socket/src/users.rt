@@ -1,0 +1,148 @@
+//! What any user of transactions does with the socket that asks: it begins one, asks whether a packet ends it, takes
+//! that packet, or takes it and begins the next one in one step, and learns of a retry that its transaction failed.
+ghost use Rattle.std.specs.Prelude.{◌≡◌, ◌≢◌, ◌↔◌, ◌<◌, ◌≤◌, length, ◌++◌, ◌∷◌, [], map, None, Some};
+ghost use Rattle.std.specs.Prelude.{IfOk, IfErr, IfSome, IsOk, IsSome, OnErr, IsErrOf, true, false};
+ghost use Rattle.at_ddp.specs.Protocols.{atp_kind};
+ghost use Rattle.at_atp_frame.specs.Frames.{content, spelled, spelled_all};
+ghost use Rattle.at_atp_requester.specs.Requests.{Retried, next_number, beginning, begun, finishes, request_by};
+ghost use Rattle.at_atp_requester.specs.Requests.{heard, retried};
+ghost use Rattle.at_transaction_socket.specs.TransactionSockets.{asking};
+ghost use Rattle.at_event.specs.Outcomes.{posted, sent_by};
+
+use crate::incoming::Incoming;
+use crate::requester_socket::Question;
+use crate::transaction_socket::{REQUESTER_SOCKET, TransactionSocket};
+use at_atp::{AtpFault, Retry};
+use at_ddp::{ATP, Datagrams, Outbox};
+use at_event::Seat;
+use std::alloc::{AllocError, Allocator};
+
+impl<A: Allocator + Copy> TransactionSocket<A> {
+    /// Begins a transaction, and sends its request. Returns its number.
+    pub fn begin(
+        &mut self,
+        seat: Seat,
+        question: &Question<'_>,
+        out: &mut Datagrams<A>,
+    ) -> Result<u16, AtpFault>
+        requires some { 1 ≤ question.now.wanted }
+        requires few { question.now.wanted ≤ 8 }
+        ensures drawn { IfOk result (λ tid. next_number self.old.requester ≡ Some tid) }
+        ensures state { IfOk result (λ tid. self.new ≡ record self.old {
+          requester = begun self.old.requester (beginning tid question.now.to question.now.user question.now.bytes.now
+              question.now.wanted question.now.exactly_once question.now.retries);
+        }) }
+        ensures sent { IfOk result
+            (λ tid. out.new.items ≡ out.old.items ++ map posted
+            (sent_by (asking seat.net seat.number) atp_kind
+            ((
+              question.now.to,
+              spelled
+                  (request_by (beginning tid question.now.to question.now.user question.now.bytes.now
+                  question.now.wanted question.now.exactly_once question.now.retries)),
+            ) ∷ []))) }
+        ensures fits { IfOk result (λ tid. length question.now.bytes.now ≤ 578) }
+        ensures too_long { IsErrOf result AtpFault.AtpTooLong ↔ (578 < length question.now.bytes.now) }
+        ensures full { IsErrOf result AtpFault.Full ↔ ((length question.now.bytes.now ≤ 578)
+            × (next_number self.old.requester ≡ None)) }
+        ensures memory { IfErr result (λ fault. fault ≢ AtpFault.AtpTooLong → fault ≢ AtpFault.Full
+            → fault ≡ AtpFault.NoMemory) }
+        ensures unchanged { OnErr result (self.new ≡ self.old) }
+        ensures nothing_sent { OnErr result (out.new.items ≡ out.old.items) }
+    {
+        let Question {
+            to,
+            user,
+            bytes,
+            wanted,
+            exactly_once,
+            retries,
+        } = *question;
+        let mut outbox = Outbox::lent(self.alloc, out, seat.at(REQUESTER_SOCKET), ATP);
+        let begun = self.requester.begin(
+            to,
+            user,
+            bytes,
+            wanted,
+            exactly_once,
+            retries,
+            &mut outbox,
+        );
+        *out = outbox.into_list();
+        begun
+    }
+
+    /// Whether a packet would end its transaction, which is at-least-once.
+    pub fn finishes(&self, packet: &Incoming<'_>) -> bool
+        ensures ends { result ≡ finishes A self.now.requester packet.now.from (content packet.now.frame) }
+
+        // Then a number is free for the next one.
+        ensures free { result ≡ true → IsSome (next_number
+            (heard {A = A} self.now.requester packet.now.from (content packet.now.frame)).after) }
+    {
+        self.requester.finishes(packet.from, &packet.frame)
+    }
+
+    /// Takes the packet that ends a transaction, and keeps nothing of the answer. This needs no memory.
+    pub fn close(&mut self, packet: &Incoming<'_>)
+        requires { finishes A self.old.requester packet.now.from (content packet.now.frame) ≡ true }
+        ensures state { self.new ≡ record self.old {
+          requester = (heard {A = A} self.old.requester packet.now.from (content packet.now.frame)).after;
+        } }
+        ensures silent { (heard {A = A} self.old.requester packet.now.from (content packet.now.frame)).sent ≡ [] }
+    {
+        self.requester.close(packet.from, &packet.frame);
+    }
+
+    /// Takes the packet that ends a transaction, and begins the next one with these user bytes in the same step. It
+    /// asks the same address for one packet, at least once. Returns its number.
+    pub fn turn(
+        &mut self,
+        packet: &Incoming<'_>,
+        user: [u8; 4],
+        retries: u8,
+        out: &mut Datagrams<A>,
+    ) -> Result<u16, AllocError>
+        requires { finishes A self.old.requester packet.now.from (content packet.now.frame) ≡ true }
+        ensures drawn { IfOk result (λ tid. next_number
+            (heard {A = A} self.old.requester packet.now.from (content packet.now.frame)).after ≡ Some tid) }
+        ensures state { IfOk result (λ tid. self.new ≡ record self.old {
+          requester = begun (heard {A = A} self.old.requester packet.now.from (content packet.now.frame)).after
+              (beginning tid packet.now.from user [] 1 false retries);
+        }) }
+        ensures sent { IfOk result
+            (λ tid. out.new.items ≡ out.old.items ++ map posted
+            (sent_by (asking packet.now.seat.net packet.now.seat.number) atp_kind
+            ((packet.now.from, spelled (request_by (beginning tid packet.now.from user [] 1 false retries))) ∷ []))) }
+        ensures unchanged { OnErr result (self.new ≡ self.old) }
+        ensures nothing_sent { OnErr result (out.new.items ≡ out.old.items) }
+    {
+        let own = packet.seat.at(REQUESTER_SOCKET);
+        let mut outbox = Outbox::lent(self.alloc, out, own, ATP);
+        let turned = self
+            .requester
+            .turn(packet.from, &packet.frame, user, retries, &mut outbox);
+        *out = outbox.into_list();
+        turned
+    }
+
+    /// Sends the request of this number again. If no retry is left, its transaction is closed, and its user is to learn
+    /// that it failed.
+    pub fn retry(&mut self, seat: Seat, tid: u16, out: &mut Datagrams<A>) -> Result<Retry, AtpFault>
+        ensures ok { IfOk result (λ step. (effect : Retried) × (retried self.old.requester tid ≡ Some effect)
+            × (step ≡ effect.step) × (self.new ≡ record self.old { requester = effect.after })
+            × (out.new.items ≡ out.old.items ++ map posted
+            (sent_by (asking seat.net seat.number) atp_kind (spelled_all effect.sent)))) }
+        ensures missing { IsErrOf result AtpFault.NoSuch ↔ (retried self.old.requester tid ≡ None) }
+        ensures memory { IfErr result (λ fault. fault ≢ AtpFault.NoSuch → fault ≡ AtpFault.NoMemory) }
+        ensures closes { IfSome (retried self.old.requester tid) (λ effect. effect.step ≡ Retry.Failed
+            → IsOk result) }
+        ensures unchanged { OnErr result (self.new ≡ self.old) }
+        ensures nothing_sent { OnErr result (out.new.items ≡ out.old.items) }
+    {
+        let mut outbox = Outbox::lent(self.alloc, out, seat.at(REQUESTER_SOCKET), ATP);
+        let step = self.requester.retry(tid, &mut outbox);
+        *out = outbox.into_list();
+        step
+    }
+}
