@@ -1,8 +1,9 @@
 mod AddingLemmas
 mod BodyLemmas
-mod CallDraws
+mod Protocols
 mod NumberLemmas
 mod DrawLemmas
+mod Drawn
 mod ListedTimers
 mod MemberLemmas
 mod NameLemmas

@@ -1,7 +1,7 @@
 -- The numbers that packets carry.
 use Rattle.std.proofs.Common.{lit<, ◌≡◌, ℕ, zero, suc, [], ◌∷◌, Option, Some, None}
 use Rattle.std.proofs.Common.{refl, sym, ap, subst, ◌∙◌, arith}
-use Rattle.std.specs.Prelude.{◌↔◌, ◌≢◌}
+use Rattle.std.specs.Prelude.{◌↔◌}
 use Rattle.std.specs.List.{Contains}
 use Rattle.at_ddp.specs.Datagram.{Content as Datagram}
 use Rattle.at_ddp.specs.Protocols.{atp_kind, nbp_kind, adsp_kind}
@@ -60,13 +60,6 @@ conn_of : (d : Datagram) (node : ℕ) (draw : Draw) → d.kind ≡ adsp_kind →
 conn_of d node (Tid tid) its h = let both : adsp_kind ≡ atp_kind = sym its ∙ h.0 in absurd (cc)
 conn_of d node (Lookup id) its h = let both : adsp_kind ≡ nbp_kind = sym its ∙ h.0 in absurd (cc)
 conn_of d node (Conn id) its h = (id, h.1, refl)
-
--- a datagram of no protocol that is spoken here carries none
-pub none_carried : (d : Datagram) (node : ℕ) (draw : Draw) → (d.kind ≢ atp_kind) × (d.kind ≢ nbp_kind)
-    × (d.kind ≢ adsp_kind) → ¬ CarriesNumber d node draw
-none_carried d node (Tid tid) other h = other.0 h.0
-none_carried d node (Lookup id) other h = other.1 h.0
-none_carried d node (Conn id) other h = other.2 h.0
 
 module _ (source dest : Option (ℕ × ℕ)) (d : Datagram) (node : ℕ) (draw : Draw) (kind : d.kind ≡ adsp_kind)
     (both : (node id : ℕ) → Contains (source ∷ dest ∷ []) (Some (node, id)) ↔ streams.Carries d.from d.to d.data_ node

@@ -19,8 +19,8 @@ use Rattle.at_event.specs.declared.Report.TheVariants.{Ignored}
 use Rattle.at_event.specs.declared.seat.Seat.{Seat}
 use Rattle.at_zone_socket.specs.AtpHearing.{AtpSocket, AtSocket, HearsAt, atp_socket}
 use Rattle.at_zone_socket.specs.AtpParts.{AtpState}
-use Rattle.at_node.specs.Hearing.{HearsIt, HearsMine, Hears, HearsSent}
-use Rattle.at_node.specs.Nodes.{NodeState, over_atp}
+use Rattle.at_node.specs.Hearing.{HearsIt, Hears, HearsSent}
+use Rattle.at_node.specs.Nodes.{HearsMine, NodeState, over_atp}
 use Rattle.at_event.specs.Outcomes.{Outcome, Through, idle}
 use Rattle.at_event.specs.Seats.{is_mine}
 

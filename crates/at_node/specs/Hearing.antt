@@ -1,27 +1,16 @@
--- What comes of received bytes: the first fault that they have, or what their datagram does to a part of the node.
-use Rattle.std.specs.Prelude.{MatchBool, ◌≡◌, ℕ, ◌==◌, ◌||◌, List, Some, ◌⊎◌}
+-- What comes of received bytes: the first fault that they have, or what their datagram does to the node.
+use Rattle.std.specs.Prelude.{MatchBool, ◌≡◌, ℕ, ◌||◌, List, Some, ◌⊎◌}
 use Rattle.at_ddp.specs.Datagram.{Content as Datagram, BeginsWith}
 use Rattle.at_ddp.specs.Fault as ddp
 use Rattle.at_ddp.specs.declared.address.Address.{Address}
 use Rattle.at_ddp.specs.declared.fault.DdpFault.{DdpFault}
-use Rattle.at_ddp.specs.Protocols.{atp_kind, nbp_kind, adsp_kind}
 use Rattle.at_atp_frame.specs.Frames.{Content}
 use Rattle.at_event.specs.declared.Report.TheVariants as report
 use Rattle.at_event.specs.declared.service.Reply.{Reply}
-use Rattle.at_zone_socket.specs.AtpHearing.{AtSocket, HearsAtp, atp_socket}
-use Rattle.at_node.specs.NameHearing.{HearsNames}
-use Rattle.at_node.specs.Nodes.{NodeState, over_atp, with_names, with_streams}
-use Rattle.at_event.specs.Outcomes.{Outcome, Over, Through, idle}
+use Rattle.at_zone_socket.specs.AtpHearing.{AtSocket, atp_socket}
+use Rattle.at_node.specs.Nodes.{HearsMine, NodeState, over_atp}
+use Rattle.at_event.specs.Outcomes.{Outcome, Through, idle}
 use Rattle.at_event.specs.Seats.{is_for_all, is_mine}
-use Rattle.at_stream_socket.specs.Hearing.{HearsStreams}
-
--- which part a datagram is for, by its protocol; that of a protocol which no part speaks is ignored
-abbrev pub HearsMine : {A : Type 0} → Reply A → NodeState → Datagram → Outcome A NodeState → Type 0
-HearsMine said n d o =
-    MatchBool (d.kind == atp_kind) (Through (over_atp n) (HearsAtp said n.seat n.atp d) o)
-    (MatchBool (d.kind == nbp_kind) (Over (with_names n) (HearsNames n.seat n.names d) o)
-    (MatchBool (d.kind == adsp_kind) (Over (with_streams n) (HearsStreams n.seat n.streams d) o)
-    (o ≡ idle n report.Ignored)))
 
 -- what is for another node is ignored
 abbrev pub HearsIt : {A : Type 0} → Reply A → NodeState → Datagram → Outcome A NodeState → Type 0

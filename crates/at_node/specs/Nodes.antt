@@ -1,6 +1,8 @@
--- A node: its seat, its parts and its user's session, and which of them has each call and each timer.
-use Rattle.std.specs.Prelude.{ℕ, List, Option}
+-- A node: its seat, its parts and its user's session, and which of them has each call, each timer and each datagram.
+use Rattle.std.specs.Prelude.{◌≡◌, ℕ, ◌==◌, if◌then◌else◌, List, Option}
 use Rattle.at_atp_requester.specs.Requests.{retried}
+use Rattle.at_ddp.specs.Datagram.{Content as Datagram}
+use Rattle.at_ddp.specs.Protocols.{atp_kind, nbp_kind, adsp_kind}
 use Rattle.at_adsp_end.specs.declared.rooms.Rooms.{Rooms}
 use Rattle.at_adsp_end.specs.declared.tick.Tick.TheVariants as tick
 use Rattle.at_adsp_ends.specs.Tables.{EndTable, no_ends}
@@ -8,6 +10,7 @@ use Rattle.at_name_socket.specs.NameSockets as names
 use Rattle.at_name_socket.specs.NameSockets.{SocketState}
 use Rattle.at_name_socket.specs.declared.neighbour.Neighbour.{Neighbour}
 use Rattle.at_zip.specs.Tables.{Tables}
+use Rattle.at_event.specs.Kinds.{Kind, Adsp, Atp, Nbp, Nobody}
 use Rattle.at_event.specs.declared.names.NameCall.{NameCall}
 use Rattle.at_event.specs.declared.names.NameCall.TheVariants.{Find, Claim, Finish, Register, Unregister}
 use Rattle.at_event.specs.declared.session.SessionCall.{SessionCall}
@@ -25,12 +28,16 @@ use Rattle.at_event.specs.declared.Timer.TheVariants as timer
 use Rattle.at_event.specs.declared.transactions.TransactionTimer.TheVariants as atp_timer
 use Rattle.at_event.specs.declared.names.NameTimer.TheVariants as nbp_timer
 use Rattle.at_event.specs.declared.streams.StreamTimer.TheVariants as adsp_timer
+use Rattle.at_event.specs.declared.Report.TheVariants as report
+use Rattle.at_event.specs.declared.service.Reply.{Reply}
 use Rattle.at_event.specs.declared.seat.Seat.{Seat}
+use Rattle.at_zone_socket.specs.AtpHearing.{HearsAtp}
 use Rattle.at_zone_socket.specs.AtpParts as atp
 use Rattle.at_zone_socket.specs.AtpParts.{AtpState, with_transactions, with_zones}
 use Rattle.at_node.specs.NameCalls.{claim_called, find_called, finish_called, lookup_fired}
 use Rattle.at_node.specs.NameCalls.{register_called, unregister_called}
-use Rattle.at_event.specs.Outcomes.{Outcome, over}
+use Rattle.at_node.specs.NameHearing.{HearsNames}
+use Rattle.at_event.specs.Outcomes.{Outcome, Over, Through, idle, over}
 use Rattle.at_session.specs.Sessions.{SessionState, address_at, finds_kept, list_kept, new_session, pattern_asked}
 use Rattle.at_node.specs.SessionCalls.{open_called, pick_called}
 use Rattle.at_transaction_socket.specs.RequesterSocket.{ask_called}
@@ -41,6 +48,7 @@ use Rattle.at_zone_socket.specs.ZoneReading.{zones_called}
 use Rattle.at_zone_socket.specs.ZoneSocket.{set_zones_called}
 use Rattle.at_stream_socket.specs.Calls.{close_called, connect_called, listen_called, read_called, reset_called}
 use Rattle.at_stream_socket.specs.Calls.{tick_fired, write_called}
+use Rattle.at_stream_socket.specs.Hearing.{HearsStreams}
 
 pub record NodeState : Type 0 where
   pub seat : Seat
@@ -113,6 +121,8 @@ name_called n (Register object kind socket) =
     over (with_names n) (register_called n.names object kind socket)
 name_called n (Unregister object kind) = over (with_names n) (unregister_called n.names object kind)
 
+-- ---- which part has a call, a timer and a datagram, a row a protocol
+
 abbrev pub called : {A : Type 0} → NodeState → Call A → Outcome A NodeState
 called n (Transactions call) = over (with_atp n) (transaction_called n.seat n.atp call)
 called n (Zones call) = over (with_atp n) (zone_called n.seat n.atp call)
@@ -127,3 +137,26 @@ timed n (timer.Transactions (atp_timer.Release own key)) = over (with_atp n) (re
 timed n (timer.Names (nbp_timer.Lookup id)) = over (with_names n) (lookup_fired n.seat n.names id)
 timed n (timer.Streams (adsp_timer.Resend id)) = over (with_streams n) (tick_fired n.seat n.streams id tick.Retransmit)
 timed n (timer.Streams (adsp_timer.Probe id)) = over (with_streams n) (tick_fired n.seat n.streams id tick.Probe)
+
+-- the part that speaks a type of datagrams; nobody speaks another
+abbrev pub speaker_of : ℕ → Kind
+speaker_of kind =
+    if kind == atp_kind then Atp
+    else (if kind == nbp_kind then Nbp
+    else (if kind == adsp_kind then Adsp
+    else Nobody))
+
+-- what a datagram does to the part that speaks its type; one that nobody speaks is ignored
+abbrev pub HearsBy : {A : Type 0} → Reply A → NodeState → Datagram → Outcome A NodeState → Kind → Type 0
+HearsBy said n d o Atp = Through (over_atp n) (HearsAtp said n.seat n.atp d) o
+HearsBy said n d o Nbp = Over (with_names n) (HearsNames n.seat n.names d) o
+HearsBy said n d o Adsp = Over (with_streams n) (HearsStreams n.seat n.streams d) o
+HearsBy said n d o other = o ≡ idle n report.Ignored
+
+-- what comes of a datagram that is for this node
+abbrev pub HearsMine : {A : Type 0} → Reply A → NodeState → Datagram → Outcome A NodeState → Type 0
+HearsMine said n d o = HearsBy said n d o (speaker_of d.kind)
+
+-- the node stays at its seat
+abbrev pub KeepsSeat : {A : Type 0} → NodeState → Outcome A NodeState → Type 0
+KeepsSeat n o = o.state.seat ≡ n.seat

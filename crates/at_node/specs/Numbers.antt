@@ -26,7 +26,7 @@ use Rattle.at_event.specs.declared.transactions.TransactionCall.TheVariants.{Ask
 use Rattle.at_event.specs.declared.zones.ZoneCall.{ZoneCall}
 use Rattle.at_event.specs.declared.zones.ZoneCall.TheVariants as zone
 use Rattle.at_event.specs.declared.Call.{Call}
-use Rattle.at_event.specs.declared.Call.TheVariants.{Transactions, Zones, Names, Streams, Session}
+use Rattle.at_event.specs.declared.Call.TheVariants.{Transactions, Zones, Names, Streams}
 use Rattle.at_event.specs.declared.Report.{Report}
 use Rattle.at_event.specs.declared.Report.TheVariants as report
 use Rattle.at_event.specs.declared.transactions.TransactionReport.TheVariants as atp_report
@@ -87,21 +87,24 @@ draw_of n (Transactions call) = transaction_draw n call
 draw_of n (Zones call) = zone_draw n call
 draw_of n (Names call) = name_draw n call
 draw_of n (Streams call) = stream_draw n call
-draw_of n (Session call) = None
+draw_of n other = None
 
--- a datagram for the node makes it draw this number: a page of a zone table, or a request that makes an end
+-- a datagram for the node makes it draw this number: a page of a zone table, or a request that makes an end does
 abbrev pub DrawsBy : NodeState → Datagram → Draw → Type 0
 DrawsBy n d (Tid tid) = (d.kind ≡ atp_kind) × HasTurn n.atp d tid
 DrawsBy n d (Lookup id) = ⊥
 DrawsBy n d (Conn id) = (d.kind ≡ adsp_kind) × Makes n.streams d id
+
+-- so does only a datagram to its own number
+abbrev pub DrawsIt : NodeState → Datagram → Draw → Type 0
+DrawsIt n d draw = (is_mine n.seat d.to ≡ true) × DrawsBy n d draw
 
 -- received bytes make the node draw this number: they begin with such a datagram
 pub record DrawsHearing (n : NodeState) (bytes : List ℕ) (draw : Draw) : Type 0 where
   pub datagram : Datagram
   pub rest : List ℕ
   pub begins : BeginsWith bytes datagram rest
-  pub is_for_it : is_mine n.seat datagram.to ≡ true
-  pub draws : DrawsBy n datagram draw
+  pub draws : DrawsIt n datagram draw
 
 -- the number that an input makes the node draw; a timer draws none
 abbrev pub Draws : {A : Type 0} → NodeState → Input A → Draw → Type 0

@@ -1,10 +1,10 @@
-//! Laws of what a node receives. The functions only call the laws of the layers below: each contract is a law.
+//! Laws of what comes of calls, timers and received bytes. The functions only call the laws of the layers below: each contract is a law.
 ghost use Rattle.std.specs.Prelude.{◌≡◌, ◌↔◌, ℕ, List, None};
 ghost use Rattle.at_ddp.specs.Datagram.{IsAddress, canonical};
 ghost use Rattle.at_ddp.specs.declared.address.Address.{Address};
 ghost use Rattle.at_ddp.specs.Protocols.{atp_kind};
 ghost use Rattle.at_atp_frame.specs.Frames.{Content, IsLawful, spelled};
-ghost use Rattle.at_node.specs.Nodes.{NodeState, called, timed};
+ghost use Rattle.at_node.specs.Nodes.{KeepsSeat, NodeState, called, timed};
 ghost use Rattle.at_event.specs.declared.Call.{Call};
 ghost use Rattle.at_event.specs.declared.Timer.{Timer};
 ghost use Rattle.at_event.specs.Outcomes.{Outcome};
@@ -38,6 +38,14 @@ pub fn what_is_drawn_is_told<A: Allocator>()
     at_stream_socket::laws::requests_alone_make_ends();
     at_zone_socket::laws::pages_alone_begin_transactions::<A>();
 }
+
+/// A node stays at its seat, whatever its user asks, whatever timer fires, and whatever comes.
+pub fn a_node_keeps_its_seat<A: Allocator>()
+    ensures call { (n : NodeState) (call : Call A) → KeepsSeat n (called n call) }
+    ensures timer { (n : NodeState) (time : Timer) → KeepsSeat {A = A} n (timed n time) }
+    ensures bytes { (said : Reply A) (n : NodeState) (bytes : List ℕ) (o : Outcome A NodeState) → Hears said n bytes o
+        → KeepsSeat n o }
+{}
 
 /// The bytes of a packet carry the number of that packet.
 pub fn what_is_sent_carries_its_number()

@@ -1,14 +1,12 @@
 //! A node of a cable. Each event goes in by one call, which returns a report and appends what the node sends to a list.
 #![tactic(auto)]
 
-mod calls;
 mod hearing;
 pub mod laws;
 mod name_calls;
 mod name_part;
 mod node;
 mod numbers;
-mod session;
 mod settings;
 mod timers;
 

@@ -1,20 +1,30 @@
-//! A node: what it is made of, and the calls and timers that its user and its clock play.
+//! A node: what it is made of, and which of its parts has each call, each timer and each packet. What a part does is in
+//! the files below.
 ghost use Rattle.std.specs.Prelude.{◌≡◌};
 ghost use Rattle.at_adsp_ends.specs.Tables.{AreRooms};
 ghost use Rattle.at_node.specs.Limits.{IsWithin};
-ghost use Rattle.at_node.specs.Nodes.{opening, called, timed};
-ghost use Rattle.at_event.specs.Outcomes.{IsStep};
+ghost use Rattle.at_node.specs.Nodes.{HearsMine, opening, called, timed};
+ghost use Rattle.at_event.specs.Outcomes.{Comes, IsStep};
+ghost use Rattle.at_event.specs.Services.{Serves};
+ghost use Rattle.at_event.specs.declared.service.Reply.{Reply};
+ghost use Rattle.at_packet.specs.Bodies.{IsBody, datagram_of};
 
 use crate::name_part::NamePart;
 use crate::settings::Settings;
-use at_adsp_ends::Tick;
 use at_ddp::Datagrams;
-use at_event::{Call, NameTimer, Report, Seat, StreamTimer, Timer, TransactionTimer};
+use at_event::{Call, NameTimer, Report, Seat, Service, Timer};
+use at_packet::Body;
 use at_session::Session;
 use at_stream_socket::StreamSocket;
 use at_zone_socket::AtpPart;
 use std::alloc::{Allocator, Global};
 use std::marker::Model;
+
+mod names;
+mod session;
+mod streams;
+mod transactions;
+mod zones;
 
 /// A node of a cable.
 #[derive(Drop)]
@@ -110,22 +120,24 @@ impl<A: Allocator + Copy> Node<A> {
         }
     }
 
-    fn transaction_timer(&mut self, timer: TransactionTimer, out: &mut Datagrams<A>) -> Report<A>
-        ensures { IsStep (timed self.old (Timer.Transactions timer)) self.old out.old.items result self.new
-            out.new.items }
+    // Takes a datagram that is for this node: the part that speaks its protocol does.
+    pub(crate) fn hear_mine<S: Service<A>>(
+        &mut self,
+        service: &mut S,
+        body: &Body<'_>,
+        out: &mut Datagrams<A>,
+    ) -> Report<A>
+        requires { IsBody body.now }
+        ensures { (said : Reply A)
+            × Comes (HearsMine said self.old (datagram_of body.now)) self.old out.old.items result self.new
+            out.new.items
+            × Serves S.serves result said service.old service.new }
     {
-        match timer {
-            TransactionTimer::Retry { tid } => self.atp.retry(self.seat, tid, out),
-            TransactionTimer::Release { own, key } => self.atp.expire(own, key),
-        }
-    }
-
-    fn stream_timer(&mut self, timer: StreamTimer, out: &mut Datagrams<A>) -> Report<A>
-        ensures { IsStep (timed self.old (Timer.Streams timer)) self.old out.old.items result self.new out.new.items }
-    {
-        match timer {
-            StreamTimer::Resend { id } => self.streams.tick(self.seat, id, Tick::Retransmit, out),
-            StreamTimer::Probe { id } => self.streams.tick(self.seat, id, Tick::Probe, out),
+        match body {
+            Body::Atp(packet) => self.hear_atp(service, packet, out),
+            Body::Nbp(packet) => self.hear_names(service, packet, out),
+            Body::Adsp(packet) => self.hear_streams(service, packet, out),
+            Body::Other(_) => Report::Ignored,
         }
     }
 }

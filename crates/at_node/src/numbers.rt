@@ -5,25 +5,17 @@ ghost use Rattle.at_atp_requester.specs.Requests.{next_number};
 ghost use Rattle.at_ddp.specs.Protocols.{atp_kind, nbp_kind, adsp_kind};
 ghost use Rattle.at_nbp.specs.Lookups.{next_id};
 ghost use Rattle.at_adsp_ends.specs.Tables.{next_id as next_end};
-ghost use Rattle.at_node.specs.Numbers.{Carries, CarriesNumber, Draws, IsTold, draw_of, drawn_by, end_drawn, holds};
-ghost use Rattle.at_node.specs.Hearing.{HearsIt};
-ghost use Rattle.at_node.specs.Nodes.{NodeState};
-ghost use Rattle.at_event.specs.Outcomes.{Outcome as Result};
-ghost use Rattle.at_zone_socket.specs.Turning.{HasTurn};
+ghost use Rattle.at_node.specs.Numbers.{Carries, CarriesNumber, Draws, DrawsBy, DrawsHearing, DrawsIt, draw_of, end_drawn};
+ghost use Rattle.at_node.specs.Numbers.{holds};
 ghost use Rattle.at_node.specs.declared.numbers.Draw.{Draw as Drawn};
 ghost use Rattle.at_node.specs.declared.numbers.Draw.TheVariants.{Conn, Lookup, Tid};
 ghost use Rattle.at_packet.specs.Bodies.{IsBody, datagram_of};
-ghost use Rattle.at_stream_socket.specs.Hearing.{Makes};
-ghost use Rattle.at_event.specs.declared.service.Reply.{Reply as Said};
 
-use crate::laws::what_is_drawn_is_told;
 use crate::node::Node;
 use at_atp_frame::owner;
 use at_event::{Call, Timer};
 use at_packet::{AdspPacket, AtpPacket, Body, NbpPacket, Packet};
-use at_stream_socket::laws::requests_alone_make_ends;
 use at_transaction_socket::tid_of;
-use at_zone_socket::laws::pages_alone_begin_transactions;
 use std::alloc::{Allocator, Global};
 
 /// A number that a node draws. It is not to be drawn again while a packet or a record has it, or an end that is
@@ -52,7 +44,6 @@ impl<A: Allocator + Copy> Node<A> {
         ensures found { IfSome result (Draws self.now input.now) }
         ensures only { (draw : Drawn) → Draws self.now input.now draw → result ≡ Some draw }
     {
-        what_is_drawn_is_told::<A>();
         match input {
             Input::Call(call) => self.draw_of_call(call),
             Input::Timer(_) => None,
@@ -80,13 +71,13 @@ impl<A: Allocator + Copy> Node<A> {
             Call::Zones(call) => self.draw_of_zones(call),
             Call::Names(call) => self.draw_of_names(call),
             Call::Streams(call) => self.draw_of_streams(call),
-            Call::Session(_) => None,
+            _ => None,
         }
     }
 
     fn draw_of_received(&self, packet: &Packet<'_>) -> Option<Draw>
-        ensures found { IfSome result (IsTold A self.now packet.now) }
-        ensures only { (draw : Drawn) → IsTold A self.now packet.now draw → result ≡ Some draw }
+        ensures found { IfSome result (λ draw. DrawsHearing self.now packet.now draw) }
+        ensures only { (draw : Drawn) → DrawsHearing self.now packet.now draw → result ≡ Some draw }
     {
         match packet.body() {
             Ok(body) => self.draw_of_body(body),
@@ -98,13 +89,9 @@ impl<A: Allocator + Copy> Node<A> {
     // end. No other datagram does.
     fn draw_of_body(&self, body: &Body<'_>) -> Option<Draw>
         requires { IsBody body.now }
-        ensures found { IfSome result (λ draw. (said : Said A) × (o : Result A NodeState)
-            × HearsIt said self.now (datagram_of body.now) o × (drawn_by o.report ≡ Some draw)) }
-        ensures only { (said : Said A) (o : Result A NodeState) → HearsIt said self.now (datagram_of body.now) o
-            → (draw : Drawn) → drawn_by o.report ≡ Some draw → result ≡ Some draw }
+        ensures found { IfSome result (λ draw. DrawsIt self.now (datagram_of body.now) draw) }
+        ensures only { (draw : Drawn) → DrawsIt self.now (datagram_of body.now) draw → result ≡ Some draw }
     {
-        requests_alone_make_ends();
-        pages_alone_begin_transactions::<A>();
         let datagram = body.datagram();
         if !self.seat.is_for(datagram.kind, datagram.to) {
             return None;
@@ -117,8 +104,9 @@ impl<A: Allocator + Copy> Node<A> {
     }
 
     fn draw_of_response(&self, packet: &AtpPacket<'_>) -> Option<Draw>
-        ensures found { IfSome result (λ draw. (tid : ℕ) × HasTurn self.now.atp packet.now tid × (draw ≡ Tid tid)) }
-        ensures only { (tid : ℕ) → HasTurn self.now.atp packet.now tid → result ≡ Some (Tid tid) }
+        requires { packet.now.kind ≡ atp_kind }
+        ensures found { IfSome result (λ draw. DrawsBy self.now packet.now draw) }
+        ensures only { (draw : Drawn) → DrawsBy self.now packet.now draw → result ≡ Some draw }
     {
         match self.atp.turned_by(self.seat, packet) {
             Some(tid) => Some(Draw::Tid(tid)),
@@ -127,9 +115,9 @@ impl<A: Allocator + Copy> Node<A> {
     }
 
     fn draw_of_segment(&self, packet: &AdspPacket<'_>) -> Option<Draw>
-        ensures found { IfSome result (λ draw. (id : ℕ) × Makes self.now.streams packet.now id
-            × (draw ≡ Conn id)) }
-        ensures only { (id : ℕ) → Makes self.now.streams packet.now id → result ≡ Some (Conn id) }
+        requires { packet.now.kind ≡ adsp_kind }
+        ensures found { IfSome result (λ draw. DrawsBy self.now packet.now draw) }
+        ensures only { (draw : Drawn) → DrawsBy self.now packet.now draw → result ≡ Some draw }
     {
         match self.streams.made_by(packet) {
             Some(id) => Some(Draw::Conn(id)),
@@ -187,7 +175,7 @@ fn numbers_in(body: &Body<'_>) -> [Option<(u8, Draw)>; 2]
         Body::Atp(packet) => [tid_in(packet), None],
         Body::Nbp(packet) => [lookup_in(packet), None],
         Body::Adsp(packet) => ends_in(packet),
-        Body::Other(_) => [None, None],
+        _ => [None, None],
     }
 }
 

@@ -1,4 +1,3 @@
-mod Seats
 mod Seeking
 mod SetupLemmas
 mod Staying

@@ -1,7 +1,6 @@
--- The nodes of a cable: which one has a number, what they hold, their limits, and where they are.
-use Rattle.std.specs.Prelude.{◌≡◌, ℕ, ◌==◌, Bool, false, List, Option, Some, None}
+-- The nodes of a cable: which one has a number, what they hold, and their limits.
+use Rattle.std.specs.Prelude.{ℕ, ◌==◌, Bool, false, List, Option, Some, None}
 use Rattle.std.specs.List.{AllByRecursion, list_any}
-use Rattle.at_event.specs.Outcomes.{Outcome}
 use Rattle.at_node.specs.Limits.{IsWithin}
 use Rattle.at_node.specs.Nodes.{NodeState}
 use Rattle.at_node.specs.Numbers.{holds}
@@ -19,7 +18,3 @@ holds_some nodes k (Some draw) = list_any (λ n. holds n k draw) nodes
 -- every node keeps to its limits
 abbrev pub AreWithin : List NodeState → Type 0
 AreWithin nodes = AllByRecursion IsWithin nodes
-
--- the node stays at its seat
-abbrev pub KeepsSeat : {A : Type 0} → NodeState → Outcome A NodeState → Type 0
-KeepsSeat n o = o.state.seat ≡ n.seat

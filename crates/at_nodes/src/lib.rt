@@ -2,7 +2,6 @@
 //! and what one of them does with an input.
 #![tactic(auto)]
 
-pub mod laws;
 mod opening;
 mod places;
 mod taking;

@@ -4,6 +4,7 @@ ghost use Rattle.at_node.specs.Limits.{IsWithin};
 ghost use Rattle.at_nodes.specs.Taking.{Takes};
 
 use at_ddp::Datagrams;
+use at_node::laws::a_node_keeps_its_seat;
 use at_node::{Deferring, Input, Node, Report};
 use std::alloc::Allocator;
 
@@ -18,6 +19,7 @@ pub fn take<A: Allocator + Copy>(
     ensures seat { node.new.seat ≡ node.old.seat }
     ensures within { IsWithin node.new }
 {
+    a_node_keeps_its_seat::<A>();
     let report = give(node, input, out);
     node.limits();
     report

@@ -1,9 +1,8 @@
 -- What an event of one protocol is to another protocol: it leaves the other's part as it was, sends nothing of its
 -- type, and reports nothing of it.
-use Rattle.std.proofs.Common.{◌≡◌, ℕ, Bool, true, false, List, [], ◌∷◌, refl, sym, ap, ◌∙◌}
+use Rattle.std.proofs.Common.{◌≡◌, ℕ, Bool, false, List, [], ◌∷◌, sym, ap, ◌∙◌}
 use Rattle.std.specs.Prelude.{◌==◌}
 use Rattle.std.specs.List.{AllByRecursion}
-use Rattle.std.proofs.lemmas.Bool.{eq-eqb, eqb-true, true≢false}
 use Rattle.at_ddp.specs.Datagram.{Content as Datagram, BeginsWith, canonical}
 use Rattle.at_ddp.specs.declared.address.Address.{Address}
 use Rattle.at_event.specs.Kinds.{Kind, Nobody, kind_of_call, kind_of_timer, reporter_of}
@@ -12,17 +11,18 @@ use Rattle.at_event.specs.declared.Call.{Call}
 use Rattle.at_event.specs.declared.Timer.{Timer}
 use Rattle.at_event.specs.declared.service.Reply.{Reply}
 use Rattle.at_node.specs.Hearing.{Hears}
-use Rattle.at_node.specs.Nodes.{NodeState, called, timed}
+use Rattle.at_node.specs.Nodes.{NodeState, called, speaker_of, timed}
 use Rattle.at_session.specs.Sessions.{SessionState}
 use Rattle.at_steps.specs.Acts.{Act, Calls, Fires, Gets, IsSaid}
 use Rattle.at_steps.specs.SessionSteps.{after as kept_after}
 use Rattle.at_steps.proofs.Coming.{IsOf}
-use Rattle.at_steps.proofs.Outcomes.{Comes, IsTyped, call_comes, datagram_comes, take_part, timer_comes, type_of}
+use Rattle.at_steps.proofs.Protocols.{Comes, IsTyped, call_comes, datagram_comes, take_part, timer_comes, type_of}
 
 -- a protocol by its test, the type of its datagrams and its part of a node; no other protocol has any of these
 pub record IsProtocol {X : Type 0} (is_its : Kind → Bool) (kind : ℕ) (part : NodeState → X) : Type 0 where
   pub not_nobodys : is_its Nobody ≡ false
   pub typed : (k : Kind) → (type_of k == kind) ≡ is_its k
+  pub spoken : (other : ℕ) → (other == kind) ≡ false → is_its (speaker_of other) ≡ false
   pub stays : (k : Kind) → is_its k ≡ false → (n now : NodeState) (s : SessionState)
       → part (record (take_part k n now) { session = s }) ≡ part n
 
@@ -64,12 +64,7 @@ module _ (X : Type 0) (is_its : Kind → Bool) (kind : ℕ) (part : NodeState �
   -- a datagram of another type is not the protocol's
   others_typed : (other : ℕ) → (other == kind) ≡ false → (k : Kind) → IsTyped k other → is_its k ≡ false
   others_typed other apart Nobody typed = p.not_nobodys
-  others_typed other apart k typed = go (is_its k) refl
-    where
-      go : (b : Bool) → is_its k ≡ b → is_its k ≡ false
-      go true is = absurd (true≢false
-          (sym (eq-eqb other kind (sym typed ∙ eqb-true (type_of k) kind (p.typed k ∙ is))) ∙ apart))
-      go false is = is
+  others_typed other apart k typed = ap is_its (sym typed) ∙ p.spoken other apart
 
   comes_anothers : (A : Type 0) (n : NodeState) (act : Act A) (o : Outcome A NodeState) (k : Kind) → is_its k ≡ false
       → Comes A n act o k → IsAnothers is_its kind part n act o

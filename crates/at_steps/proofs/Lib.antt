@@ -1,11 +1,8 @@
-mod Atp
 mod Coming
 mod Drawing
 mod Entries
 mod Foreign
 mod Kept
-mod Names
-mod Outcomes
+mod Protocols
 mod Safety
 mod Sessions
-mod Streams

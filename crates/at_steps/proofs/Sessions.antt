@@ -9,7 +9,7 @@ use Rattle.at_node.specs.Hearing.{Hears}
 use Rattle.at_node.specs.Nodes.{NodeState, called, timed}
 use Rattle.at_steps.specs.Acts.{Act, Calls, Fires, Gets}
 use Rattle.at_steps.specs.SessionSteps.{IsStep}
-use Rattle.at_steps.proofs.Outcomes.{Comes, bytes_come, call_comes, timer_comes}
+use Rattle.at_steps.proofs.Protocols.{Comes, bytes_come, call_comes, timer_comes}
 
 module _ (A : Type 0) (n : NodeState) where
   abbrev Steps : Act A → Outcome A NodeState → Type 0

@@ -1,5 +1,4 @@
 mod Acts
-mod Atp
 mod CableOpening
 mod CableTie
 mod Canonical
@@ -10,13 +9,10 @@ mod EventLemmas
 mod Following
 mod FreshLemmas
 mod LawfulSetups
-mod Names
 mod Nodes
 mod NotedLemmas
 mod Parts
 mod Runs
 mod SafetyLemmas
 mod SentLemmas
-mod Sessions
-mod Streams
 mod WorldLemmas

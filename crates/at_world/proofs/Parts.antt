@@ -12,46 +12,49 @@ use Rattle.at_event.specs.declared.Report.TheVariants.{NoMemory}
 use Rattle.at_event.specs.declared.service.Reply.{Reply}
 use Rattle.at_event.specs.declared.service.Reply.TheVariants.{Later}
 use Rattle.at_node.specs.Hearing.{Hears}
-use Rattle.at_node.specs.Nodes.{NodeState, called, timed}
+use Rattle.at_node.specs.Nodes.{KeepsSeat, NodeState, called, timed}
 use Rattle.at_node.specs.Numbers.{DrawsHearing, IsTold, draw_of, drawn_by}
 use Rattle.at_node.specs.declared.numbers.Draw.{Draw}
-use Rattle.at_nodes.specs.Nodes.{KeepsSeat}
 use Rattle.at_setup.specs.Setups.{is_lawful}
 use Rattle.at_setup.specs.declared.event.Event.{Event}
 use Rattle.at_setup.specs.declared.event.Event.TheVariants as event
 use Rattle.at_setup.specs.declared.setup.Setup.{Setup}
-use Rattle.at_world.specs.AtpGuards as atp_guards
+use Rattle.at_world.specs.Machine.AtpGuards as atp_guards
 use Rattle.at_world.specs.Cables as cables
 use Rattle.at_world.specs.Events.{act_of, node_of}
 use Rattle.at_world.specs.Machine.{Machine, Step, opening_machine}
-use Rattle.at_world.specs.NameGuards as name_guards
+use Rattle.at_world.specs.Machine.NameGuards as name_guards
 use Rattle.at_world.specs.Plays.{opening_world}
 use Rattle.at_world.specs.Sents.{SentDatagram}
-use Rattle.at_world.specs.StreamGuards as stream_guards
+use Rattle.at_world.specs.Machine.StreamGuards as stream_guards
 use Rattle.at_world.specs.Worlds.{WorldState, AreFree, is_over, node_at, recorded}
-use Rattle.at_world.proofs.Atp.Coming.{comes}
-use Rattle.at_world.proofs.Atp.Happenings as asked
-use Rattle.at_world.proofs.Atp.Happenings.{Follows as FollowsAtp}
-use Rattle.at_world.proofs.Atp.Opening.{atp_at_opening}
-use Rattle.at_world.proofs.Atp.Tie.{AtpTie, Grown, Laws}
+use Rattle.at_world.proofs.Parts.Atp.Coming.{comes}
+use Rattle.at_world.proofs.Parts.Atp.Happenings as asked
+use Rattle.at_world.proofs.Parts.Atp.Happenings.{Follows as FollowsAtp}
+use Rattle.at_world.proofs.Parts.Atp.Opening.{atp_at_opening}
+use Rattle.at_world.proofs.Parts.Atp.Tie.{AtpTie, Grown, Laws}
 use Rattle.at_world.proofs.CableOpening.{cable_at_opening}
 use Rattle.at_world.proofs.CableTie.{CableTie, cable_next}
 use Rattle.at_world.proofs.FreshLemmas.{IsFresh}
 use Rattle.at_world.proofs.LawfulSetups.{SetupLaws}
-use Rattle.at_world.proofs.Names.Coming as names_coming
-use Rattle.at_world.proofs.Names.Happenings as named
-use Rattle.at_world.proofs.Names.Next.{Good as GoodNames}
-use Rattle.at_world.proofs.Names.Opening.{names_at_opening}
-use Rattle.at_world.proofs.Names.Tie.{NameLaws, NameTie}
-use Rattle.at_world.proofs.Sessions.Opening.{sessions_at_opening}
-use Rattle.at_world.proofs.Sessions.Steps as told
-use Rattle.at_world.proofs.Sessions.Steps.{Good as GoodSessions, SessionLaws}
-use Rattle.at_world.proofs.Sessions.Tie.{SessionTie}
-use Rattle.at_world.proofs.Streams.Coming as streams_coming
-use Rattle.at_world.proofs.Streams.Happenings as streamed
-use Rattle.at_world.proofs.Streams.Next.{Good as GoodStreams}
-use Rattle.at_world.proofs.Streams.Opening.{streams_at_opening}
-use Rattle.at_world.proofs.Streams.Tie.{StreamLaws, StreamTie}
+use Rattle.at_world.proofs.Parts.Names.Coming as names_coming
+use Rattle.at_world.proofs.Parts.Names.Happenings as named
+use Rattle.at_world.proofs.Parts.Names.Next.{Good as GoodNames}
+use Rattle.at_world.proofs.Parts.Names.Opening.{names_at_opening}
+use Rattle.at_world.proofs.Parts.Names.Tie.{NameLaws, NameTie}
+use Rattle.at_world.proofs.Parts.Sessions.Opening.{sessions_at_opening}
+use Rattle.at_world.proofs.Parts.Sessions.Steps as told
+use Rattle.at_world.proofs.Parts.Sessions.Steps.{Good as GoodSessions, SessionLaws}
+use Rattle.at_world.proofs.Parts.Sessions.Tie.{SessionTie}
+use Rattle.at_world.proofs.Parts.Streams.Coming as streams_coming
+use Rattle.at_world.proofs.Parts.Streams.Happenings as streamed
+use Rattle.at_world.proofs.Parts.Streams.Next.{Good as GoodStreams}
+use Rattle.at_world.proofs.Parts.Streams.Opening.{streams_at_opening}
+use Rattle.at_world.proofs.Parts.Streams.Tie.{StreamLaws, StreamTie}
+pub mod Atp
+pub mod Names
+pub mod Sessions
+pub mod Streams
 
 -- what ties a world to the machine: a tie of the cable, one of each part, and one of the sessions
 pub record Tied (A : Type 0) (w : WorldState) (m : Machine) : Type 0 where

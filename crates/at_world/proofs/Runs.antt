@@ -7,7 +7,7 @@ use Rattle.at_event.specs.Kinds.{reporter_of}
 use Rattle.at_event.specs.declared.Report.{Report}
 use Rattle.at_event.specs.declared.Report.TheVariants.{NoMemory}
 use Rattle.at_node.specs.Hearing.{Hears}
-use Rattle.at_node.specs.Nodes.{NodeState, called, timed}
+use Rattle.at_node.specs.Nodes.{KeepsSeat, NodeState, called, timed}
 use Rattle.at_node.specs.Numbers.{IsTold, drawn_by}
 use Rattle.at_event.specs.Outcomes.{Outcome, idle, posted, IsStep, Comes}
 use Rattle.at_event.specs.Services.{is_asked}
@@ -24,11 +24,10 @@ use Rattle.at_world.specs.Plays.{opening_world, Follows, IsPlay}
 use Rattle.at_world.specs.Stories.{Tells, tables_by}
 use Rattle.at_world.specs.Worlds.{WorldState, AreFree, IsPlayable, Plays, is_over, node_at, recorded, refusal}
 use Rattle.at_world.specs.Worlds.{refusal_at}
-use Rattle.at_world.proofs.Atp.Serving.{answers_its_request}
-use Rattle.at_world.proofs.Atp.Tables.{tables_follow}
-use Rattle.at_nodes.specs.Nodes.{KeepsSeat}
+use Rattle.at_world.proofs.Parts.Atp.Serving.{answers_its_request}
+use Rattle.at_world.proofs.Parts.Atp.Tables.{tables_follow}
 use Rattle.at_world.proofs.FreshLemmas.{fresh_of}
-use Rattle.at_world.proofs.Streams.Peers.{names_peers}
+use Rattle.at_world.proofs.Parts.Streams.Peers.{names_peers}
 use Rattle.at_world.proofs.Parts.{EachFollows, Follow, PartLaws, Tied, call_follows, datagram_follows, nothing_follows}
 use Rattle.at_world.proofs.Parts.{timer_follows, together}
 use Rattle.at_setup.specs.declared.refusal.Refusal.TheVariants.{Limit}

@@ -21,7 +21,7 @@ use Rattle.at_stream_socket.specs.Sockets.{streams_at}
 use Rattle.at_zip.specs.Request.{RequestSpells, request_user}
 use Rattle.at_zip.specs.Tables.{table_of}
 use Rattle.at_zip.specs.declared.request.Which.{Which}
-use Rattle.at_world.specs.AtpGuards.{AtpMachine}
+use Rattle.at_world.specs.Machine.AtpGuards.{AtpMachine}
 use Rattle.at_world.specs.Events.{NoForge}
 use Rattle.at_world.specs.Machine.{Machine, Run, opening_machine}
 use Rattle.at_world.specs.Plays.{Follows, opening_world}

@@ -1,16 +1,12 @@
 pub mod Agreements
-pub mod AtpGuards
 pub mod Cables
 pub mod Draws
 pub mod Events
 pub mod ExactlyOnce
 pub mod Machine
-pub mod NameGuards
 pub mod Plays
 pub mod Safety
 pub mod Sents
-pub mod SessionGuards
 pub mod Stories
-pub mod StreamGuards
 pub mod Transactions
 pub mod Worlds

@@ -3,21 +3,25 @@
 use Rattle.std.specs.Prelude.{◌≡◌, List, [], ◌∷◌, take, Result, Ok, Err}
 use Rattle.at_event.specs.Kinds.{reporter_of}
 use Rattle.at_event.specs.declared.Report.{Report}
-use Rattle.at_world.specs.AtpGuards as atp
-use Rattle.at_world.specs.AtpGuards.{AtpMachine}
+use Rattle.at_world.specs.Machine.AtpGuards as atp
+use Rattle.at_world.specs.Machine.AtpGuards.{AtpMachine}
 use Rattle.at_world.specs.Cables as cables
 use Rattle.at_world.specs.Cables.{Cable}
 use Rattle.at_world.specs.Events.{NoForge}
-use Rattle.at_world.specs.NameGuards as names
-use Rattle.at_world.specs.NameGuards.{NameMachine}
-use Rattle.at_world.specs.SessionGuards as sessions
-use Rattle.at_world.specs.SessionGuards.{Sessions}
-use Rattle.at_world.specs.StreamGuards as streams
-use Rattle.at_world.specs.StreamGuards.{StreamMachine}
+use Rattle.at_world.specs.Machine.NameGuards as names
+use Rattle.at_world.specs.Machine.NameGuards.{NameMachine}
+use Rattle.at_world.specs.Machine.SessionGuards as sessions
+use Rattle.at_world.specs.Machine.SessionGuards.{Sessions}
+use Rattle.at_world.specs.Machine.StreamGuards as streams
+use Rattle.at_world.specs.Machine.StreamGuards.{StreamMachine}
 use Rattle.at_setup.specs.declared.event.Event.{Event}
 use Rattle.at_setup.specs.declared.setup.Setup.{Setup}
 use Rattle.at_world.specs.declared.transcript.Transcript.{Transcript}
 use Rattle.at_world.specs.declared.transcript.PlayFault.{PlayFault}
+pub mod AtpGuards
+pub mod NameGuards
+pub mod SessionGuards
+pub mod StreamGuards
 
 pub record Machine : Type 0 where
   pub cable : Cable

@@ -45,7 +45,7 @@ pub(crate) fn steps_make_a_history<A: Allocator>()
     at_steps::laws::streams::what_is_read_reads_from_a_peer::<A>();
     at_steps::laws::streams::an_end_that_opened_names_its_peer();
     at_atp::laws::what_is_sent_is_lawful::<A>();
-    at_nodes::laws::a_node_keeps_its_seat::<A>();
+    at_node::laws::a_node_keeps_its_seat::<A>();
     at_node::laws::what_is_sent_carries_its_number();
     at_node::laws::what_is_drawn_is_told::<A>();
     at_zip::laws::what_is_written_is_read();

@@ -1,5 +1,5 @@
-use Rattle.at_node.proofs.CallDraws.{call_draws, timer_draws}
-use Rattle.at_node.proofs.DrawLemmas.{BeginningLaw}
+use Rattle.at_node.proofs.Protocols.{call_draws, timer_draws}
+use Rattle.at_node.proofs.Protocols.Transactions.{BeginningLaw}
 use Rattle.at_node.proofs.ToldLemmas.{draws_tells, tells_draws}
 use Rattle.at_node.proofs.laws.what_is_drawn_is_told.Goals as goal
 

@@ -1,8 +1,8 @@
 use Rattle.std.proofs.Common.{lit<, subst, sym}
-use Rattle.at_ddp.specs.Datagram.{Content as Datagram, content}
+use Rattle.at_ddp.specs.Datagram.{Content as Datagram}
 use Rattle.at_node.specs.Numbers.{CarriesNumber}
-use Rattle.at_node.proofs.BodyLemmas.{adsp_of, atp_of, nbp_of, other_kind, other_of}
-use Rattle.at_node.proofs.NumberLemmas.{is_first, is_nowhere, none_carried}
+use Rattle.at_node.proofs.BodyLemmas.{adsp_of, atp_of, nbp_of}
+use Rattle.at_node.proofs.NumberLemmas.{is_first}
 use Rattle.at_event.proofs.OutcomeLemmas.{when_some}
 use Rattle.at_node.proofs.numbers.numbers_in.Goals as goal
 
@@ -33,12 +33,4 @@ returns-in-Adsp c node draw =
     let both = c.ends_in.ensures node draw in (
       (λ h. subst (λ d. CarriesNumber d node draw) (sym its.0) (both.0 h)),
       (λ h. both.1 (subst (λ d. CarriesNumber d node draw) its.0 h)),
-    )
-
-pub returns-in-Other : goal.returns-in-Other
-returns-in-Other c node draw =
-    let d = c.in-Other.field-0 in (
-      (λ h. absurd (is_nowhere (node, draw) h)),
-      (λ h. absurd (none_carried (content d) node draw (other_kind c.args.body.now d c.in-Other.is c.requires)
-          (subst (λ d. CarriesNumber d node draw) (other_of c.args.body.now d c.in-Other.is) h))),
     )

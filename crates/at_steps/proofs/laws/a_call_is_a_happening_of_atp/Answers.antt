@@ -1,5 +1,5 @@
-use Rattle.at_steps.proofs.Atp.Below.{CallLaws}
-use Rattle.at_steps.proofs.Atp.Calls.{call_happens}
+use Rattle.at_steps.proofs.Protocols.Atp.Below.{CallLaws}
+use Rattle.at_steps.proofs.Protocols.Atp.Calls.{call_happens}
 use Rattle.at_steps.proofs.laws.a_call_is_a_happening_of_atp.Goals as goal
 
 pub returns : goal.returns

@@ -1,5 +1,5 @@
-use Rattle.at_steps.proofs.Atp.Arriving.{datagram_happens}
-use Rattle.at_steps.proofs.Atp.Below.{HearingLaws}
+use Rattle.at_steps.proofs.Protocols.Atp.Arriving.{datagram_happens}
+use Rattle.at_steps.proofs.Protocols.Atp.Below.{HearingLaws}
 use Rattle.at_steps.proofs.laws.a_packet_is_a_happening_of_atp.Goals as goal
 
 pub returns : goal.returns

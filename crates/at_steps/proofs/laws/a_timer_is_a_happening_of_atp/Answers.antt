@@ -1,4 +1,4 @@
-use Rattle.at_steps.proofs.Atp.Timers.{timer_happens}
+use Rattle.at_steps.proofs.Protocols.Atp.Timers.{timer_happens}
 use Rattle.at_steps.proofs.laws.a_timer_is_a_happening_of_atp.Goals as goal
 
 pub returns : goal.returns

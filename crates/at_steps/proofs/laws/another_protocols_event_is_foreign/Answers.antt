@@ -1,4 +1,4 @@
-use Rattle.at_steps.proofs.Atp.Foreign.{others_are_foreign}
+use Rattle.at_steps.proofs.Protocols.Atp.Foreign.{others_are_foreign}
 use Rattle.at_steps.proofs.laws.another_protocols_event_is_foreign.Goals as goal
 
 pub returns : goal.returns

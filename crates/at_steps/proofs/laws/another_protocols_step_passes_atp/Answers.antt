@@ -1,4 +1,4 @@
-use Rattle.at_steps.proofs.Atp.Passing.{foreign_passes}
+use Rattle.at_steps.proofs.Protocols.Atp.Passing.{foreign_passes}
 use Rattle.at_steps.proofs.laws.another_protocols_step_passes_atp.Goals as goal
 
 pub returns : goal.returns

@@ -5,14 +5,14 @@ use Rattle.at_atp.specs.Network.{after}
 use Rattle.at_world.specs.Machine.{opening_machine}
 use Rattle.at_world.specs.Plays.{opening_world}
 use Rattle.at_world.specs.Stories.{Tells}
-use Rattle.at_world.proofs.Atp.Serving.{stands_at}
-use Rattle.at_world.proofs.Atp.Tie.{Laws}
+use Rattle.at_world.proofs.Parts.Atp.Serving.{stands_at}
+use Rattle.at_world.proofs.Parts.Atp.Tie.{Laws}
 use Rattle.at_world.proofs.LawfulSetups.{SetupLaws}
-use Rattle.at_world.proofs.Names.Tie.{NameLaws}
+use Rattle.at_world.proofs.Parts.Names.Tie.{NameLaws}
 use Rattle.at_world.proofs.Parts.{PartLaws, tied_at_opening}
 use Rattle.at_world.proofs.Runs.{runs}
-use Rattle.at_world.proofs.Sessions.Steps.{SessionLaws}
-use Rattle.at_world.proofs.Streams.Tie.{StreamLaws, read_in_order}
+use Rattle.at_world.proofs.Parts.Sessions.Steps.{SessionLaws}
+use Rattle.at_world.proofs.Parts.Streams.Tie.{StreamLaws, read_in_order}
 use Rattle.at_world.proofs.history.steps_make_a_history.Goals as goal
 
 pub returns : goal.returns

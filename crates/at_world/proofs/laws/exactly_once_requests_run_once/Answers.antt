@@ -1,8 +1,8 @@
 use Rattle.std.proofs.Common.{[]}
 use Rattle.at_setup.specs.Setups.{tables_of}
 use Rattle.at_world.specs.ExactlyOnce.{onto}
-use Rattle.at_world.proofs.Atp.Onces.{runs_once}
-use Rattle.at_world.proofs.Atp.Told.{OnceLaws, told_of}
+use Rattle.at_world.proofs.Parts.Atp.Onces.{runs_once}
+use Rattle.at_world.proofs.Parts.Atp.Told.{OnceLaws, told_of}
 use Rattle.at_world.proofs.laws.exactly_once_requests_run_once.Goals as goal
 
 pub returns : goal.returns

@@ -1,5 +1,5 @@
-use Rattle.at_steps.proofs.Names.Below.{CallLaws}
-use Rattle.at_steps.proofs.Names.Calls.{call_happens}
+use Rattle.at_steps.proofs.Protocols.Names.Below.{CallLaws}
+use Rattle.at_steps.proofs.Protocols.Names.Calls.{call_happens}
 use Rattle.at_steps.proofs.laws.names.a_call_is_a_happening.Goals as goal
 
 pub returns : goal.returns

@@ -1,5 +1,5 @@
-use Rattle.at_steps.proofs.Names.Arriving.{datagram_happens}
-use Rattle.at_steps.proofs.Names.Below.{HearingLaws, ReadingLaws}
+use Rattle.at_steps.proofs.Protocols.Names.Arriving.{datagram_happens}
+use Rattle.at_steps.proofs.Protocols.Names.Below.{HearingLaws, ReadingLaws}
 use Rattle.at_steps.proofs.laws.names.a_packet_is_a_happening.Goals as goal
 
 pub returns : goal.returns

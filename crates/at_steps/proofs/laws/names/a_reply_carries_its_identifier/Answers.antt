@@ -1,5 +1,5 @@
-use Rattle.at_steps.proofs.Names.Below.{ReadingLaws}
-use Rattle.at_steps.proofs.Names.Carrying.{reply_carries}
+use Rattle.at_steps.proofs.Protocols.Names.Below.{ReadingLaws}
+use Rattle.at_steps.proofs.Protocols.Names.Carrying.{reply_carries}
 use Rattle.at_steps.proofs.laws.names.a_reply_carries_its_identifier.Goals as goal
 
 pub returns : goal.returns

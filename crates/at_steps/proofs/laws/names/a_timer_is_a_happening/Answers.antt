@@ -1,5 +1,5 @@
-use Rattle.at_steps.proofs.Names.Below.{TimerLaws}
-use Rattle.at_steps.proofs.Names.Timers.{timer_happens}
+use Rattle.at_steps.proofs.Protocols.Names.Below.{TimerLaws}
+use Rattle.at_steps.proofs.Protocols.Names.Timers.{timer_happens}
 use Rattle.at_steps.proofs.laws.names.a_timer_is_a_happening.Goals as goal
 
 pub returns : goal.returns

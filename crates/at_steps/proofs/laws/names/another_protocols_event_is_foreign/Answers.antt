@@ -1,4 +1,4 @@
-use Rattle.at_steps.proofs.Names.Foreign.{others_are_foreign}
+use Rattle.at_steps.proofs.Protocols.Names.Foreign.{others_are_foreign}
 use Rattle.at_steps.proofs.laws.names.another_protocols_event_is_foreign.Goals as goal
 
 pub returns : goal.returns

@@ -1,4 +1,4 @@
-use Rattle.at_steps.proofs.Names.Passing.{foreign_passes}
+use Rattle.at_steps.proofs.Protocols.Names.Passing.{foreign_passes}
 use Rattle.at_steps.proofs.laws.names.another_protocols_step_passes.Goals as goal
 
 pub returns : goal.returns

@@ -1,10 +1,11 @@
-use Rattle.at_steps.proofs.Safety.Events.{Laws, call_safe, datagram_safe, timer_safe}
+use Rattle.at_steps.proofs.Protocols.{SafetyLaws, call_safe, timer_safe}
+use Rattle.at_steps.proofs.Safety.Events.{datagram_safe}
 use Rattle.at_steps.proofs.laws.safety.every_event_is_safe.Goals as goal
 
 pub returns : goal.returns
 returns g c =
     let A = g.row.A.Denot in
-    let laws : Laws = record {
+    let laws : SafetyLaws = record {
       numbers = c.below_32_a_number_is_free.ensures;
       records =
           record {

@@ -1,4 +1,4 @@
-use Rattle.at_steps.proofs.Streams.Calls.{call_happens}
+use Rattle.at_steps.proofs.Protocols.Streams.Calls.{call_happens}
 use Rattle.at_steps.proofs.laws.streams.a_call_is_a_happening.Goals as goal
 
 pub returns : goal.returns

@@ -1,5 +1,5 @@
-use Rattle.at_steps.proofs.Streams.Arriving.{datagram_happens}
-use Rattle.at_steps.proofs.Streams.Below.{HearingLaws, ReadingLaws}
+use Rattle.at_steps.proofs.Protocols.Streams.Arriving.{datagram_happens}
+use Rattle.at_steps.proofs.Protocols.Streams.Below.{HearingLaws, ReadingLaws}
 use Rattle.at_steps.proofs.laws.streams.a_packet_is_a_happening.Goals as goal
 
 pub returns : goal.returns

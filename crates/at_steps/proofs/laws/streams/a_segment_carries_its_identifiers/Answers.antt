@@ -1,5 +1,5 @@
-use Rattle.at_steps.proofs.Streams.Below.{ReadingLaws}
-use Rattle.at_steps.proofs.Streams.Carrying.{dest_carried, source_carried}
+use Rattle.at_steps.proofs.Protocols.Streams.Below.{ReadingLaws}
+use Rattle.at_steps.proofs.Protocols.Streams.Carrying.{dest_carried, source_carried}
 use Rattle.at_steps.proofs.laws.streams.a_segment_carries_its_identifiers.Goals as goal
 
 pub returns : goal.returns

@@ -1,4 +1,4 @@
-use Rattle.at_steps.proofs.Streams.Timers.{timer_happens}
+use Rattle.at_steps.proofs.Protocols.Streams.Timers.{timer_happens}
 use Rattle.at_steps.proofs.laws.streams.a_timer_is_a_happening.Goals as goal
 
 pub returns : goal.returns

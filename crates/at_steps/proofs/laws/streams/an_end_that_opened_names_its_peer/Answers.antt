@@ -1,7 +1,7 @@
 use Rattle.std.proofs.Common.{◌∙◌, ap}
 use Rattle.at_adsp_ends.specs.Tables.{EndTable, by_id}
 use Rattle.at_stream_socket.specs.Sockets.{streams_at}
-use Rattle.at_steps.proofs.Streams.Ours.{all_ours}
+use Rattle.at_steps.proofs.Protocols.Streams.Ours.{all_ours}
 use Rattle.at_steps.proofs.laws.streams.an_end_that_opened_names_its_peer.Goals as goal
 
 pub returns : goal.returns

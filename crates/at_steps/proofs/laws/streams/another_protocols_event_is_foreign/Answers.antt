@@ -1,4 +1,4 @@
-use Rattle.at_steps.proofs.Streams.Foreign.{others_are_foreign}
+use Rattle.at_steps.proofs.Protocols.Streams.Foreign.{others_are_foreign}
 use Rattle.at_steps.proofs.laws.streams.another_protocols_event_is_foreign.Goals as goal
 
 pub returns : goal.returns

@@ -1,4 +1,4 @@
-use Rattle.at_steps.proofs.Streams.Passing.{foreign_passes}
+use Rattle.at_steps.proofs.Protocols.Streams.Passing.{foreign_passes}
 use Rattle.at_steps.proofs.laws.streams.another_protocols_step_passes.Goals as goal
 
 pub returns : goal.returns

@@ -1,4 +1,4 @@
-use Rattle.at_steps.proofs.Streams.Reading.{read_with}
+use Rattle.at_steps.proofs.Protocols.Streams.Reading.{read_with}
 use Rattle.at_steps.proofs.laws.streams.what_is_read_reads_from_a_peer.Goals as goal
 
 pub returns : goal.returns

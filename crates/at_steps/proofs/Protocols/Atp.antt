@@ -1,0 +1,26 @@
+-- How each step of a node's part for ATP and ZIP is a happening of its network, and safe.
+pub mod Arriving
+pub mod Asking
+pub mod Beginning
+pub mod Below
+pub mod Calls
+pub mod Coming
+pub mod Foreign
+pub mod Heard
+pub mod Hearing
+pub mod Holding
+pub mod Keeping
+pub mod Moves
+pub mod Outcomes
+pub mod PageHeard
+pub mod Passing
+pub mod Requested
+pub mod SafeEvents
+pub mod SafeRecords
+pub mod SafeRequests
+pub mod SafeServing
+pub mod Served
+pub mod Standing
+pub mod Stories
+pub mod Timers
+pub mod Values
