@@ -161,15 +161,16 @@ pub(crate) fn play_event<A: Allocator + Copy, W: Paper, E: Paper>(
 {
     let at = world.played();
     let first = world.sent_count();
-    match world.step(event) {
+    // (A report is looked at where it lies, since a move of it takes longer.)
+    match &world.step(event) {
         Ok(report) => {
-            write_event(printer, at as usize, &report);
+            write_event(printer, at as usize, report);
             write_sent(printer, world, first);
-            diagnostics.tell_report(&report, at as usize, line);
+            diagnostics.tell_report(report, at as usize, line);
             Ok(())
         }
         Err(fault) => Err(Stop::Event {
-            fault,
+            fault: *fault,
             at,
             line,
             which: delivered(event),

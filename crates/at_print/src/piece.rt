@@ -77,11 +77,10 @@ impl Piece {
 }
 
 /// Prints a line that begins with this piece and ends with a word.
-pub(crate) fn end_with_word<W: Paper>(printer: &mut Printer<W>, line: Piece, word: &[u8])
-    requires { length line + length word.now + 1 ≤ ROOM }
-    ensures { Prints W.page printer.old printer.new (line ++ (word.now ++ codes "\n")) }
+pub(crate) fn end_with_word<W: Paper>(printer: &mut Printer<W>, line: &mut Piece, word: &[u8])
+    requires { length line.old + length word.now + 1 ≤ ROOM }
+    ensures { Prints W.page printer.old printer.new (line.old ++ (word.now ++ codes "\n")) }
 {
-    let mut line = line;
     line.put(word);
     line.put(b"\n");
     printer.write_all(line.text());
@@ -90,14 +89,13 @@ pub(crate) fn end_with_word<W: Paper>(printer: &mut Printer<W>, line: Piece, wor
 /// Prints a line that begins with this piece and ends with a word, a space included, and a number.
 pub(crate) fn end_with_number<W: Paper>(
     printer: &mut Printer<W>,
-    line: Piece,
+    line: &mut Piece,
     word: &[u8],
     number: u64,
 )
-    requires { length line + length word.now + 21 ≤ ROOM }
-    ensures { Prints W.page printer.old printer.new (line ++ ((word.now ++ decimal number) ++ codes "\n")) }
+    requires { length line.old + length word.now + 21 ≤ ROOM }
+    ensures { Prints W.page printer.old printer.new (line.old ++ ((word.now ++ decimal number) ++ codes "\n")) }
 {
-    let mut line = line;
     line.put(word);
     line.put_number(number);
     line.put(b"\n");
@@ -105,19 +103,18 @@ pub(crate) fn end_with_number<W: Paper>(
 }
 
 /// Prints a line that begins with this piece and ends with two digits for each byte.
-pub(crate) fn end_with_pairs<W: Paper>(printer: &mut Printer<W>, line: Piece, bytes: &[u8])
-    requires { length line + 2 * length bytes.now + 1 ≤ ROOM }
-    ensures { Prints W.page printer.old printer.new (line ++ (pairs bytes.now ++ codes "\n")) }
+pub(crate) fn end_with_pairs<W: Paper>(printer: &mut Printer<W>, line: &mut Piece, bytes: &[u8])
+    requires { length line.old + 2 * length bytes.now + 1 ≤ ROOM }
+    ensures { Prints W.page printer.old printer.new (line.old ++ (pairs bytes.now ++ codes "\n")) }
 {
-    let mut line = line;
     line.put_pairs(bytes);
     line.put(b"\n");
     printer.write_all(line.text());
 }
 
 /// Prints a line that begins with this piece and ends with bytes, however many.
-pub(crate) fn end_with_hex<W: Paper>(printer: &mut Printer<W>, line: Piece, bytes: &[u8])
-    ensures { Prints W.page printer.old printer.new (line ++ (hex_text bytes.now ++ codes "\n")) }
+pub(crate) fn end_with_hex<W: Paper>(printer: &mut Printer<W>, line: &mut Piece, bytes: &[u8])
+    ensures { Prints W.page printer.old printer.new (line.old ++ (hex_text bytes.now ++ codes "\n")) }
 {
     printer.write_all(line.text());
     write_hex(printer, bytes);

@@ -1,5 +1,5 @@
 //! What is printed of a report, of a timer and of a datagram. A protocol has a file below this one.
-ghost use Rattle.std.specs.Prelude.{◌≡◌, ◌≤◌, ◌++◌, codes, length};
+ghost use Rattle.std.specs.Prelude.{◌≡◌, ◌≤◌, ◌++◌, [], codes, length};
 ghost use Rattle.std.specs.Fmt.{decimal};
 ghost use Rattle.at_print.specs.Printers.{Prints};
 ghost use Rattle.at_print.specs.Reports.{datagram_line, event_line, event_line_at, report_text};
@@ -35,7 +35,9 @@ pub fn write_event<A: Allocator, W: Paper>(
 )
     ensures { Prints W.page printer.old printer.new (event_line event report.now) }
 {
-    write_report(printer, beginning(event), report);
+    let mut line = Piece::new();
+    put_event(&mut line, event);
+    write_report(printer, &mut line, report);
 }
 
 /// Prints the report of an event on network `net`. A requester of that network is named by its node, as by
@@ -48,22 +50,24 @@ pub fn write_event_at<A: Allocator, W: Paper>(
 )
     ensures { Prints W.page printer.old printer.new (event_line_at net event report.now) }
 {
-    let line = beginning(event);
+    let mut line = Piece::new();
+    put_event(&mut line, event);
     match report {
-        Report::Transactions(report) => write_transaction_report_at(printer, line, net, report),
-        _ => write_report(printer, line, report),
+        Report::Transactions(report) => {
+            write_transaction_report_at(printer, &mut line, net, report)
+        }
+        _ => write_report(printer, &mut line, report),
     }
 }
 
 // The number of an event, with which its line begins.
-fn beginning(event: usize) -> Piece
-    ensures text { result ≡ decimal event ++ codes " " }
-    ensures short { length result ≤ HEAD }
+fn put_event(line: &mut Piece, event: usize)
+    requires { line.old ≡ [] }
+    ensures text { line.new ≡ decimal event ++ codes " " }
+    ensures short { length line.new ≤ HEAD }
 {
-    let mut line = Piece::new();
     line.put_number(event as u64);
     line.put(b" ");
-    line
 }
 
 /// Prints a datagram that was sent: its number, the node that it goes to, and its bytes.
@@ -77,15 +81,19 @@ pub fn write_datagram<W: Paper>(printer: &mut Printer<W>, number: usize, to: u8,
     line.put_number(u64::from(to));
     line.put(b" ");
     match bytes.len() {
-        1..=SHORT => end_with_pairs(printer, line, bytes),
-        _ => end_with_hex(printer, line, bytes),
+        1..=SHORT => end_with_pairs(printer, &mut line, bytes),
+        _ => end_with_hex(printer, &mut line, bytes),
     }
 }
 
 // The line that begins with this piece, and ends with a report.
-fn write_report<A: Allocator, W: Paper>(printer: &mut Printer<W>, line: Piece, report: &Report<A>)
-    requires { length line ≤ HEAD }
-    ensures { Prints W.page printer.old printer.new (line ++ (report_text report.now ++ codes "\n")) }
+fn write_report<A: Allocator, W: Paper>(
+    printer: &mut Printer<W>,
+    line: &mut Piece,
+    report: &Report<A>,
+)
+    requires { length line.old ≤ HEAD }
+    ensures { Prints W.page printer.old printer.new (line.old ++ (report_text report.now ++ codes "\n")) }
 {
     match report {
         Report::Transactions(report) => write_transaction_report(printer, line, report),
@@ -104,20 +112,11 @@ fn write_report<A: Allocator, W: Paper>(printer: &mut Printer<W>, line: Piece, r
 pub fn write_timer<W: Paper>(printer: &mut Printer<W>, net: u16, timer: Timer)
     ensures { Prints W.page printer.old printer.new (timer_line net timer) }
 {
-    let line = timer_beginning();
-    match timer {
-        Timer::Transactions(timer) => write_transaction_timer(printer, line, net, timer),
-        Timer::Names(timer) => write_name_timer(printer, line, timer),
-        Timer::Streams(timer) => write_stream_timer(printer, line, timer),
-    }
-}
-
-// What the line of each timer begins with.
-fn timer_beginning() -> Piece
-    ensures text { result ≡ codes "timer " }
-    ensures short { length result ≤ TIMER }
-{
     let mut line = Piece::new();
     line.put(b"timer ");
-    line
+    match timer {
+        Timer::Transactions(timer) => write_transaction_timer(printer, &mut line, net, timer),
+        Timer::Names(timer) => write_name_timer(printer, &mut line, timer),
+        Timer::Streams(timer) => write_stream_timer(printer, &mut line, timer),
+    }
 }

@@ -37,10 +37,6 @@ refused_delivery : (A : Type 0) (w : WorldState) (which k : ℕ) (s : SentDatagr
 refused_delivery A w which k s r runs is so =
     refused_at A w (event.Deliver which k) r runs (ap (delivery_refusal w k) is ∙ so)
 
-pub not_for : (A : Type 0) (w : WorldState) (which k : ℕ) (s : SentDatagram) → is_over w ≡ false
-    → slice_get w.sent which ≡ Some s → is_for s k ≡ false → refusal {A = A} w (event.Deliver which k) ≡ Some NotForNode
-not_for A w which k s runs is for = refused_delivery A w which k s (Some NotForNode) runs is (rw for refl)
-
 pub for_it : (A : Type 0) (w : WorldState) (which k : ℕ) (s : SentDatagram) (r : Option Refusal) → is_over w ≡ false
     → slice_get w.sent which ≡ Some s → is_for s k ≡ true → node_refusal (node_at w k) ≡ r →
     refusal {A = A} w (event.Deliver which k) ≡ r
@@ -53,24 +49,6 @@ not_sent A w which k runs past = refused_at A w (event.Deliver which k) (Some No
 
 pub for_same : (s : SentDatagram) (to k : ℕ) → to ≡ s.to → ((to == k) || (to == 255)) ≡ is_for s k
 for_same s to k same = ap (λ n. (n == k) || (n == 255)) same
-
--- whether the node stands, as it was looked up
-pub misses : (w : WorldState) (k : ℕ) (nodes given : List NodeState) (r : Option ℕ) (b : Bool) → nodes ≡ w.nodes
-    → given ≡ nodes → r ≡ position_from (is_numbered k) 0 given → is_some r ≡ not b → b ≡ true →
-    node_refusal (node_at w k) ≡ Some NotForNode
-misses w k nodes given None b same copied is none so =
-    none_stands w k nodes same (none_by (is_numbered k) nodes given None copied is refl)
-misses w k nodes given (Some i) true same copied is none so = absurd (cc)
-misses w k nodes given (Some i) false same copied is none so = absurd (cc)
-
-pub hits : (w : WorldState) (k : ℕ) (nodes given : List NodeState) (r : Option ℕ) (b : Bool) → nodes ≡ w.nodes → given
-    ≡ nodes → r ≡ position_from (is_numbered k) 0 given → is_some r ≡ not b → b ≡ false →
-    node_refusal (node_at w k) ≡ None
-hits w k nodes given (Some i) b same copied is some so =
-    let f = found_by (is_numbered k) nodes given (Some i) i copied is refl in
-    one_stands w k f.entry (node_stands w k nodes i f.entry same f refl)
-hits w k nodes given None true same copied is some so = absurd (cc)
-hits w k nodes given None false same copied is some so = absurd (cc)
 
 -- what was found of the datagram's bytes, and of the event that sent it
 pub fresh_there : (w : WorldState) (s : SentDatagram) (ds : Draws) (bytes : List ℕ) (e : ℕ) → ds ≡ w.last → bytes
@@ -118,45 +96,28 @@ stale_there A w which k s ds bytes e is known same when (node, draw, carries, la
 
 -- ---- what is answered
 
-pub delivered : (A : Type 0) (w : WorldState) (which k : ℕ) (s : SentDatagram) (bytes : List ℕ) (w' : WorldState)
-    (answer : Result (Report A) Fault) → is_over w ≡ false → slice_get w.sent which ≡ Some s → is_for s k ≡ true
-    → IsFresh w s → HeardFree w k s.bytes →
-    bytes ≡ s.bytes → IfOk answer (λ r. PlaysAt w k (Receives {A = A} bytes) r w')
-    → IfOk answer (λ r. IsPlayable {A = A} w (event.Deliver which k) × PlaysDelivery w which k r w')
-delivered A w which k s bytes w' (Err f) runs is for fresh free same played = tt
-delivered A w which k s bytes w' (Ok r) runs is for fresh free same played = (
-  record {
-    allowed = for_it A w which k s None runs is for (one_stands w k played.node played.stands);
-    timely = timely_at A w which k s is fresh free;
-  },
-  record {
-    datagram = s;
-    was_sent = is;
-    is_for_it = for;
-    plays = record {
-      node = played.node;
-      stands = played.stands;
-      after = played.after;
-      out = played.out;
-      steps = subst (λ l. Receives {A = A} l played.node [] r played.after played.out) same played.steps;
-      booked = played.booked;
-    };
-  },
-)
+-- nothing refuses the delivery
+pub deliverable : (A : Type 0) (w : WorldState) (which k : ℕ) (s : SentDatagram) → is_over w ≡ false
+    → slice_get w.sent which ≡ Some s → is_for s k ≡ true → node_refusal (node_at w k) ≡ None → IsFresh w s
+    → HeardFree w k s.bytes → IsPlayable {A = A} w (event.Deliver which k)
+deliverable A w which k s runs is for there fresh free = record {
+  allowed = for_it A w which k s None runs is for there;
+  timely = timely_at A w which k s is fresh free;
+}
 
--- memory ran out
-pub not_delivered : (A : Type 0) (w : WorldState) (which k : ℕ) (s : SentDatagram) (w' : WorldState)
-    (answer : Result (Report A) Fault) → is_over w ≡ false → slice_get w.sent which ≡ Some s → is_for s k ≡ true
-    → node_refusal (node_at w k) ≡ None → IsFresh w s → HeardFree w k s.bytes
-    → IfErr answer (λ f. (f ≡ fault.NoMemory) × (w'.failed ≡ true) × (w'.sent ≡ w.sent))
-    → IfErr answer (λ f. IsFault {A = A} w (event.Deliver which k) f w')
-not_delivered A w which k s w' (Ok r) runs is for there fresh free h = tt
-not_delivered A w which k s w' (Err f) runs is for there fresh free h =
-    subst (λ x. IsFault {A = A} w (event.Deliver which k) x w') (sym h.0) (
-      h.1,
-      h.2,
-      λ whole. record {
-        allowed = for_it A w which k s None runs is for there;
-        timely = timely_at A w which k s is fresh free;
-      },
-    )
+pub delivered : (A : Type 0) (w : WorldState) (which k : ℕ) (s : SentDatagram) (bytes : List ℕ) (w' : WorldState)
+    (r : Report A) → slice_get w.sent which ≡ Some s → is_for s k ≡ true → bytes ≡ s.bytes
+    → PlaysAt w k (Receives {A = A} bytes) r w' → PlaysDelivery w which k r w'
+delivered A w which k s bytes w' r is for same played = record {
+  datagram = s;
+  was_sent = is;
+  is_for_it = for;
+  plays = record {
+    node = played.node;
+    stands = played.stands;
+    after = played.after;
+    out = played.out;
+    steps = subst (λ l. Receives {A = A} l played.node [] r played.after played.out) same played.steps;
+    booked = played.booked;
+  };
+}

@@ -9,6 +9,7 @@ mod EventLemmas
 mod Following
 mod FreshLemmas
 mod LawfulSetups
+mod LogLemmas
 mod Nodes
 mod NotedLemmas
 mod Parts

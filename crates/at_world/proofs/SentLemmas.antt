@@ -1,8 +1,9 @@
 -- What is stamped with its event: how many there are, and which stands at an index.
 use Rattle.std.proofs.Common.{◌≡◌, ℕ, zero, suc, List, [], ◌∷◌, ◌++◌, length, map, replicate, Some, refl, sym, ap, ◌∙◌}
 use Rattle.std.proofs.Common.{arith}
-use Rattle.std.proofs.lemmas.List.{length-append}
-use Rattle.std.specs.Prelude.{slice_get}
+use Rattle.std.proofs.lemmas.Bool.{eqb-true}
+use Rattle.std.proofs.lemmas.List.{append-nil, length-append}
+use Rattle.std.specs.Prelude.{◌==◌, slice_get, true}
 use Rattle.at_ddp.specs.Datagrams.{Posted}
 use Rattle.at_world.specs.Sents.{SentDatagram, stamp, stamped}
 
@@ -44,6 +45,15 @@ stamped_in items es ps i e to bytes is here node data_ =
     )
 
 -- ---- what an event sent, behind what was sent before
+
+pub nothing_in : (out : List Posted) → (length out == 0) ≡ true → out ≡ []
+nothing_in [] none = refl
+nothing_in (p ∷ out) none = let e = eqb-true (length (p ∷ out)) 0 none in absurd (omega (arith, e))
+
+-- an event that sent nothing
+pub nothing_more : (items : List SentDatagram) (out : List Posted) (event : ℕ) → (length out == 0) ≡ true
+    → items ≡ items ++ map (stamp event) out
+nothing_more items out event none = rw (nothing_in out none) (sym (append-nil items))
 
 length_replicate : (n event : ℕ) → length (replicate n event) ≡ n
 length_replicate zero event = refl

@@ -4,6 +4,7 @@
 mod draws;
 mod history;
 pub mod laws;
+mod log;
 mod player;
 mod sent;
 mod timely;

@@ -72,6 +72,9 @@ impl<A: Allocator> SentList<A> {
             ((self.new ≡ self.old ++ map (stamp event) out.old.items) × (out.new.items ≡ [])) }
         ensures err { OnErr result (self.new ≡ self.old) }
     {
+        if out.is_empty() {
+            return Ok(());
+        }
         let count = out.len();
         self.events.reserve(count)?;
         self.list.append(out)?;

@@ -11,14 +11,14 @@ impl<A: Allocator + Copy> World<A> {
     pub fn played(&self) -> u32
         ensures { result ≡ self.now.events }
     {
-        self.events
+        self.log.events
     }
 
     /// How many datagrams were sent.
     pub fn sent_count(&self) -> usize
         ensures { result ≡ length self.now.sent }
     {
-        self.sent.len()
+        self.log.sent.len()
     }
 
     /// The datagram of a number. Datagrams are numbered from 0 in the order of sending.
@@ -27,6 +27,6 @@ impl<A: Allocator + Copy> World<A> {
         ensures { (s : SentDatagram) × (slice_get self.now.sent number ≡ Some s) × (result.event ≡ s.event)
             × (result.to ≡ s.to) × (result.bytes.now ≡ s.bytes) }
     {
-        self.sent.get(number)
+        self.log.sent.get(number)
     }
 }

@@ -16,11 +16,11 @@ use std::alloc::Allocator;
 /// The line that begins with this piece, and ends with a report of names.
 pub(crate) fn write_name_report<A: Allocator, W: Paper>(
     printer: &mut Printer<W>,
-    line: Piece,
+    line: &mut Piece,
     report: &NameReport<A>,
 )
-    requires { length line ≤ HEAD }
-    ensures { Prints W.page printer.old printer.new (line ++ (name_report_text report.now ++ codes "\n")) }
+    requires { length line.old ≤ HEAD }
+    ensures { Prints W.page printer.old printer.new (line.old ++ (name_report_text report.now ++ codes "\n")) }
 {
     match report {
         NameReport::Looking(id) => end_with_number(printer, line, b"looking ", u64::from(*id)),
@@ -36,12 +36,11 @@ pub(crate) fn write_name_report<A: Allocator, W: Paper>(
 }
 
 // The line that begins with this piece, and ends with the finds of a lookup that was finished.
-fn write_found<W: Paper>(printer: &mut Printer<W>, line: Piece, finds: &[Find])
-    requires { length line ≤ HEAD }
+fn write_found<W: Paper>(printer: &mut Printer<W>, line: &mut Piece, finds: &[Find])
+    requires { length line.old ≤ HEAD }
     ensures { Prints W.page printer.old printer.new
-        (line ++ ((codes "found" ++ flat_map found_text finds.now) ++ codes "\n")) }
+        (line.old ++ ((codes "found" ++ flat_map found_text finds.now) ++ codes "\n")) }
 {
-    let mut line = line;
     line.put(b"found");
     printer.write_all(line.text());
     write_finds(printer, finds);
@@ -58,12 +57,11 @@ fn write_finds<W: Paper>(printer: &mut Printer<W>, finds: &[Find])
 }
 
 // The line that begins with this piece, and ends with the name of a claim that is taken.
-fn write_taken<W: Paper>(printer: &mut Printer<W>, line: Piece, find: &Find)
-    requires { length line ≤ HEAD }
+fn write_taken<W: Paper>(printer: &mut Printer<W>, line: &mut Piece, find: &Find)
+    requires { length line.old ≤ HEAD }
     ensures { Prints W.page printer.old printer.new
-        (line ++ ((codes "taken " ++ find_text find.now) ++ codes "\n")) }
+        (line.old ++ ((codes "taken " ++ find_text find.now) ++ codes "\n")) }
 {
-    let mut line = line;
     line.put(b"taken ");
     printer.write_all(line.text());
     write_find(printer, find);
@@ -92,9 +90,13 @@ fn write_find<W: Paper>(printer: &mut Printer<W>, find: &Find)
 }
 
 /// The line that begins with this piece, and ends with a timer of names.
-pub(crate) fn write_name_timer<W: Paper>(printer: &mut Printer<W>, line: Piece, timer: NameTimer)
-    requires { length line ≤ TIMER }
-    ensures { Prints W.page printer.old printer.new (line ++ (name_timer_text timer ++ codes "\n")) }
+pub(crate) fn write_name_timer<W: Paper>(
+    printer: &mut Printer<W>,
+    line: &mut Piece,
+    timer: NameTimer,
+)
+    requires { length line.old ≤ TIMER }
+    ensures { Prints W.page printer.old printer.new (line.old ++ (name_timer_text timer ++ codes "\n")) }
 {
     match timer {
         NameTimer::Lookup { id } => end_with_number(printer, line, b"lookup ", u64::from(id)),

@@ -17,11 +17,11 @@ use std::alloc::Allocator;
 /// The line that begins with this piece, and ends with a report of streams.
 pub(crate) fn write_stream_report<A: Allocator, W: Paper>(
     printer: &mut Printer<W>,
-    line: Piece,
+    line: &mut Piece,
     report: &StreamReport<A>,
 )
-    requires { length line ≤ HEAD }
-    ensures { Prints W.page printer.old printer.new (line ++ (stream_text report.now ++ codes "\n")) }
+    requires { length line.old ≤ HEAD }
+    ensures { Prints W.page printer.old printer.new (line.old ++ (stream_text report.now ++ codes "\n")) }
 {
     match report {
         StreamReport::ListenSet => end_with_word(printer, line, b"done"),
@@ -41,23 +41,21 @@ pub(crate) fn write_stream_report<A: Allocator, W: Paper>(
     }
 }
 
-fn write_heard<W: Paper>(printer: &mut Printer<W>, line: Piece, id: u16, items: u16)
-    requires { length line ≤ HEAD }
+fn write_heard<W: Paper>(printer: &mut Printer<W>, line: &mut Piece, id: u16, items: u16)
+    requires { length line.old ≤ HEAD }
     ensures { Prints W.page printer.old printer.new
-        (line ++ ((codes "heard " ++ (decimal id ++ (codes " " ++ decimal items))) ++ codes "\n")) }
+        (line.old ++ ((codes "heard " ++ (decimal id ++ (codes " " ++ decimal items))) ++ codes "\n")) }
 {
-    let mut line = line;
     line.put(b"heard ");
     line.put_number(u64::from(id));
     end_with_number(printer, line, b" ", u64::from(items));
 }
 
-fn write_read<W: Paper>(printer: &mut Printer<W>, line: Piece, items: &[Item])
-    requires { length line ≤ HEAD }
+fn write_read<W: Paper>(printer: &mut Printer<W>, line: &mut Piece, items: &[Item])
+    requires { length line.old ≤ HEAD }
     ensures { Prints W.page printer.old printer.new
-        (line ++ ((codes "read" ++ items_text false items.now) ++ codes "\n")) }
+        (line.old ++ ((codes "read" ++ items_text false items.now) ++ codes "\n")) }
 {
-    let mut line = line;
     line.put(b"read");
     printer.write_all(line.text());
     write_items(printer, items);
@@ -132,11 +130,11 @@ fn starts_with_byte(items: &[Item]) -> bool
 /// The line that begins with this piece, and ends with a timer of the end of a stream.
 pub(crate) fn write_stream_timer<W: Paper>(
     printer: &mut Printer<W>,
-    line: Piece,
+    line: &mut Piece,
     timer: StreamTimer,
 )
-    requires { length line ≤ TIMER }
-    ensures { Prints W.page printer.old printer.new (line ++ (stream_timer_text timer ++ codes "\n")) }
+    requires { length line.old ≤ TIMER }
+    ensures { Prints W.page printer.old printer.new (line.old ++ (stream_timer_text timer ++ codes "\n")) }
 {
     match timer {
         StreamTimer::Resend { id } => end_with_number(printer, line, b"resend ", u64::from(id)),

@@ -20,12 +20,12 @@ use std::alloc::Allocator;
 /// The line that begins with this piece, and ends with a report of transactions on network `net`.
 pub(crate) fn write_transaction_report_at<A: Allocator, W: Paper>(
     printer: &mut Printer<W>,
-    line: Piece,
+    line: &mut Piece,
     net: u16,
     report: &TransactionReport<A>,
 )
-    requires { length line ≤ HEAD }
-    ensures { Prints W.page printer.old printer.new (line ++ (transaction_text_at net report.now ++ codes "\n")) }
+    requires { length line.old ≤ HEAD }
+    ensures { Prints W.page printer.old printer.new (line.old ++ (transaction_text_at net report.now ++ codes "\n")) }
 {
     match report {
         TransactionReport::Asked { key, user, data_ } => {
@@ -45,11 +45,11 @@ pub(crate) fn write_transaction_report_at<A: Allocator, W: Paper>(
 /// The line that begins with this piece, and ends with a report of transactions.
 pub(crate) fn write_transaction_report<A: Allocator, W: Paper>(
     printer: &mut Printer<W>,
-    line: Piece,
+    line: &mut Piece,
     report: &TransactionReport<A>,
 )
-    requires { length line ≤ HEAD }
-    ensures { Prints W.page printer.old printer.new (line ++ (transaction_text report.now ++ codes "\n")) }
+    requires { length line.old ≤ HEAD }
+    ensures { Prints W.page printer.old printer.new (line.old ++ (transaction_text report.now ++ codes "\n")) }
 {
     match report {
         TransactionReport::Begun(tid) => end_with_number(printer, line, b"begun ", u64::from(*tid)),
@@ -73,18 +73,17 @@ pub(crate) fn write_transaction_report<A: Allocator, W: Paper>(
 
 fn write_asked<W: Paper>(
     printer: &mut Printer<W>,
-    line: Piece,
+    line: &mut Piece,
     net: Option<u16>,
     key: Key,
     user: [u8; 4],
     bytes: &[u8],
 )
-    requires { length line ≤ HEAD }
+    requires { length line.old ≤ HEAD }
     ensures { Prints W.page printer.old printer.new
-        (line ++ ((asked_by net key ++ (hex_text user ++ (codes " " ++ hex_text bytes.now))) ++ codes "\n")) }
+        (line.old ++ ((asked_by net key ++ (hex_text user ++ (codes " " ++ hex_text bytes.now))) ++ codes "\n")) }
 {
-    let mut line = line;
-    put_asked(&mut line, net, key);
+    put_asked(line, net, key);
     printer.write_all(line.text());
     write_hex(printer, &user);
     printer.write_all(b" ");
@@ -104,15 +103,14 @@ fn put_asked(line: &mut Piece, net: Option<u16>, key: Key)
 
 fn write_response<A: Allocator, W: Paper>(
     printer: &mut Printer<W>,
-    line: Piece,
+    line: &mut Piece,
     tid: u16,
     packets: &[Packet<A>],
 )
-    requires { length line ≤ HEAD }
+    requires { length line.old ≤ HEAD }
     ensures { Prints W.page printer.old printer.new
-        (line ++ (((codes "response " ++ decimal tid) ++ flat_map packet_text packets.now) ++ codes "\n")) }
+        (line.old ++ (((codes "response " ++ decimal tid) ++ flat_map packet_text packets.now) ++ codes "\n")) }
 {
-    let mut line = line;
     line.put(b"response ");
     line.put_number(u64::from(tid));
     printer.write_all(line.text());
@@ -134,12 +132,12 @@ fn write_packets<A: Allocator, W: Paper>(printer: &mut Printer<W>, packets: &[Pa
 /// The line that begins with this piece, and ends with a timer of transactions on network `net`.
 pub(crate) fn write_transaction_timer<W: Paper>(
     printer: &mut Printer<W>,
-    line: Piece,
+    line: &mut Piece,
     net: u16,
     timer: TransactionTimer,
 )
-    requires { length line ≤ TIMER }
-    ensures { Prints W.page printer.old printer.new (line ++ (transaction_timer_text net timer ++ codes "\n")) }
+    requires { length line.old ≤ TIMER }
+    ensures { Prints W.page printer.old printer.new (line.old ++ (transaction_timer_text net timer ++ codes "\n")) }
 {
     match timer {
         TransactionTimer::Retry { tid } => {
@@ -149,16 +147,15 @@ pub(crate) fn write_transaction_timer<W: Paper>(
     }
 }
 
-fn write_release<W: Paper>(printer: &mut Printer<W>, line: Piece, net: u16, own: u8, key: Key)
-    requires { length line ≤ TIMER }
+fn write_release<W: Paper>(printer: &mut Printer<W>, line: &mut Piece, net: u16, own: u8, key: Key)
+    requires { length line.old ≤ TIMER }
     ensures { Prints W.page printer.old printer.new
-        (line ++ (transaction_timer_text net (TransactionTimer.Release own key) ++ codes "\n")) }
+        (line.old ++ (transaction_timer_text net (TransactionTimer.Release own key) ++ codes "\n")) }
 {
-    let mut line = line;
     line.put(b"release ");
     line.put_number(u64::from(own));
     line.put(b" ");
-    put_key(&mut line, other_net(net, key), key);
+    put_key(line, other_net(net, key), key);
     line.put(b"\n");
     printer.write_all(line.text());
 }

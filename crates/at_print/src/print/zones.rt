@@ -16,11 +16,11 @@ use std::alloc::Allocator;
 /// The line that begins with this piece, and ends with a report of zones.
 pub(crate) fn write_zone_report<A: Allocator, W: Paper>(
     printer: &mut Printer<W>,
-    line: Piece,
+    line: &mut Piece,
     report: &ZoneReport<A>,
 )
-    requires { length line ≤ HEAD }
-    ensures { Prints W.page printer.old printer.new (line ++ (zone_report_text report.now ++ codes "\n")) }
+    requires { length line.old ≤ HEAD }
+    ensures { Prints W.page printer.old printer.new (line.old ++ (zone_report_text report.now ++ codes "\n")) }
 {
     match report {
         ZoneReport::Served(count) => end_with_number(printer, line, b"served ", u64::from(*count)),
@@ -33,12 +33,11 @@ pub(crate) fn write_zone_report<A: Allocator, W: Paper>(
     }
 }
 
-fn write_zones<W: Paper>(printer: &mut Printer<W>, line: Piece, which: Which, zones: &[Pascal])
-    requires { length line ≤ HEAD }
+fn write_zones<W: Paper>(printer: &mut Printer<W>, line: &mut Piece, which: Which, zones: &[Pascal])
+    requires { length line.old ≤ HEAD }
     ensures { Prints W.page printer.old printer.new
-        (line ++ ((table_word which ++ flat_map zone_text zones.now) ++ codes "\n")) }
+        (line.old ++ ((table_word which ++ flat_map zone_text zones.now) ++ codes "\n")) }
 {
-    let mut line = line;
     line.put(table_word(which));
     printer.write_all(line.text());
     write_each_zone(printer, zones);

@@ -16,6 +16,6 @@ returns g c =
     let space = Prints-trans page c.write_hex.new.printer c.write_all-2.new.self last _ _ c.write_all-2.ensures bytes in
     let user = Prints-trans page c.write_all.new.self c.write_hex.new.printer last _ _ c.write_hex.ensures space in
     subst (Prints page c.args.printer.now last)
-    (flat-asked c.args.line (asked_by c.args.net c.args.key) (hex_text c.args.user) (codes " ")
+    (flat-asked c.args.line.now (asked_by c.args.net c.args.key) (hex_text c.args.user) (codes " ")
     (hex_text c.args.bytes.now)
     (codes "\n")) (Prints-trans page c.args.printer.now c.write_all.new.self last _ _ first user)

@@ -1,7 +1,14 @@
-use Rattle.std.proofs.Common.{◌++◌, map, ◌∙◌, ap, refl}
+use Rattle.std.proofs.Common.{◌++◌, map, ◌∙◌, ap, refl, sym}
 use Rattle.at_world.specs.Sents.{stamp}
-use Rattle.at_world.proofs.SentLemmas.{more_stamped}
+use Rattle.at_world.proofs.SentLemmas.{more_stamped, nothing_in, nothing_more}
 use Rattle.at_world.proofs.sent.SentList.append.Goals as goal
+
+pub returns-then-is_empty-clause-ok : goal.returns-then-is_empty-clause-ok
+returns-then-is_empty-clause-ok g c =
+    let none = sym c.is_empty.ensures ∙ c.if-is_empty.true in (
+      nothing_more c.args.self.now c.args.out.now.items c.args.event none,
+      nothing_in c.args.out.now.items none,
+    )
 
 pub returns-clause-ok : goal.returns-clause-ok
 returns-clause-ok g c = (

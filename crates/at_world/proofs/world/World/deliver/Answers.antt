@@ -2,21 +2,20 @@ use Rattle.std.proofs.Common.{rules, ◌≡◌, ◌∙◌, [], List, None, Some,
 use Rattle.std.specs.Prelude.{nat_le, nat_lt, ◌||◌, slice_get, IfErr}
 use Rattle.std.specs.List.{position_from}
 use Rattle.at_ddp.specs.Datagrams.{Posted}
-use Rattle.at_ddp.proofs.Alls.{all_replaced}
 use Rattle.at_ddp.proofs.TableLemmas.{Found, found_by, none_by}
-use Rattle.at_node.specs.Limits.{IsWithin}
 use Rattle.at_node.specs.Numbers.{DrawsHearing}
 use Rattle.at_nodes.specs.Nodes.{AreWithin}
 use Rattle.at_world.specs.Sents.{SentDatagram}
 use Rattle.at_nodes.specs.Taking.{Receives}
 use Rattle.at_nodes.specs.Nodes.{is_numbered}
-use Rattle.at_world.specs.Worlds.{AreFree, WorldState, is_for, node_at, node_refusal}
-use Rattle.at_setup.specs.declared.refusal.Fault.TheVariants as fault
-use Rattle.at_world.proofs.DeliveryLemmas.{HeardFree, delivered, for_it, for_same, fresh_there, held_there}
-use Rattle.at_world.proofs.DeliveryLemmas.{not_delivered, not_sent, stale_there}
-use Rattle.at_world.proofs.WorldLemmas.{node_stands, none_stands, one_stands, recorded_by, taken}
+use Rattle.at_world.specs.Worlds.{AreFree, IsPlayable, WorldState, is_for, node_at, node_refusal}
+use Rattle.at_setup.specs.declared.event.Event.TheVariants as event
+use Rattle.at_world.proofs.DeliveryLemmas.{HeardFree, deliverable, delivered, for_it, for_same}
+use Rattle.at_world.proofs.DeliveryLemmas.{fresh_there, held_there, not_sent, stale_there}
+use Rattle.at_world.proofs.WorldLemmas.{few_events, node_stands, none_stands, one_stands, recorded_by}
+use Rattle.at_world.proofs.WorldLemmas.{stays_within}
 use Rattle.at_world.proofs.world.World.deliver.Given.{Over}
-use Rattle.at_world.proofs.world.World.deliver.Goals.{After-get-sent, In-Some}
+use Rattle.at_world.proofs.world.World.deliver.Goals.{After-get-sent, Else-draws_held, In-Some}
 use Rattle.at_world.proofs.world.World.deliver.Goals as goal
 
 -- the datagram that is to be delivered
@@ -73,7 +72,7 @@ pub returns-then-not-is_fresh-clause-not_played : goal.returns-then-not-is_fresh
 returns-then-not-is_fresh-clause-not_played g c =
     let at = (goal.at.returns-then-not-is_fresh-clause-not_played g c).In-Some in
     let s = sent_there g (goal.at.returns-then-not-is_fresh-clause-not_played g c).After-get-sent in
-    let stale = stale_there g.row.A.Denot c.args.self.now c.args.which c.args.node s.0 c.self.inside.last
+    let stale = stale_there g.row.A.Denot c.args.self.now c.args.which c.args.node s.0 c.self.inside.log.last
     c.of-packet.result c.get-sent.result.event s.1 (ap (λ (w : WorldState). w.last) c.self.view_is)
     (c.of-packet.ensures ∙ s.4) s.2 (c.is_fresh.ensures.stale c.if-not-is_fresh.true) in (
       (
@@ -110,19 +109,24 @@ index_mut-requires g c =
     let f = stands_there g (goal.at.index_mut-requires g c).In-Some in
     omega (arith, f.within, c.self.inside.nodes.ok.0)
 
-pub invariant_of-self : goal.invariant_of-self
-invariant_of-self g c =
-    let f = stands_there g (goal.at.invariant_of-self g c).In-Some in
-    let empty : c.replace-out.new.dest.items ≡ [] = search rules in (
-      empty,
-      subst AreWithin (f.set_is c.take-report.new.node)
-          (all_replaced IsWithin (is_numbered c.args.node) c.take-report.new.node c.self.inside.nodes.items
-          c.self.invariant.1 c.take-report.ensures.within),
-    )
+pub record-requires : goal.record-requires
+record-requires g c = few_events c.args.self.now c.self.inside.log.events
+    (ap (λ (w : WorldState). w.events) c.self.view_is) c.requires.runs
 
-pub finish-requires : goal.finish-requires
-finish-requires g c =
-    ap (λ (w : WorldState). nat_le 200000 w.events || nat_lt 868928 (length w.sent)) c.self.view_is ∙ c.requires.runs
+-- nothing refuses the delivery
+deliverable_there : (g : Over) (c : Else-draws_held g) → node_refusal (node_at c.args.self.now c.args.node) ≡ None
+    → (s : SentDatagram) → slice_get c.args.self.now.sent c.args.which ≡ Some s → is_for s c.args.node ≡ true
+    → c.get-sent.result.event ≡ s.event → c.get-sent.result.bytes.now ≡ s.bytes
+    → IsPlayable {A = g.row.A.Denot} c.args.self.now (event.Deliver c.args.which c.args.node)
+deliverable_there g c stands s is for when same =
+    let bytes = c.of-packet.ensures ∙ same in
+    deliverable g.row.A.Denot c.args.self.now c.args.which c.args.node s c.requires.runs is for stands
+    (fresh_there c.args.self.now s c.self.inside.log.last c.of-packet.result c.get-sent.result.event
+    (ap (λ (w : WorldState). w.last) c.self.view_is) bytes when (c.is_fresh.ensures.fresh c.if-not-is_fresh.false))
+    (subst (HeardFree c.args.self.now c.args.node) bytes
+    (subst (λ l. AreFree l c.args.node (λ n draw. DrawsHearing n c.of-packet.result draw))
+    (c.deref-2.ensures.value ∙ ap (λ (w : WorldState). w.nodes) c.self.view_is)
+    (c.draws_held.ensures.free c.if-draws_held.false)))
 
 pub returns-clause-played : goal.returns-clause-played
 returns-clause-played g c =
@@ -130,44 +134,76 @@ returns-clause-played g c =
     let s = sent_there g (goal.at.returns-clause-played g c).After-get-sent in
     let f = stands_there g at in
     let same = ap (λ (w : WorldState). w.nodes) c.self.view_is in
-    let given = c.index_mut.result.now in
-    let empty : c.replace-out.result.items ≡ [] = search rules in
-    let bytes = c.of-packet.ensures ∙ s.4 in
-    let fresh = fresh_there c.args.self.now s.0 c.self.inside.last c.of-packet.result c.get-sent.result.event
-    (ap (λ (w : WorldState). w.last) c.self.view_is) bytes s.2 (c.is_fresh.ensures.fresh c.if-not-is_fresh.false) in
-    let free = subst (HeardFree c.args.self.now c.args.node) bytes
-    (subst (λ l. AreFree l c.args.node (λ n draw. DrawsHearing n c.of-packet.result draw))
-    (c.deref-2.ensures.value ∙ same) (c.draws_held.ensures.free c.if-draws_held.false)) in
-    let stands = node_stands c.args.self.now c.args.node c.self.inside.nodes.items c.in-Some.place given same f
-    (c.index_mut.ensures.value ∙ f.at given) in
-    delivered g.row.A.Denot c.args.self.now c.args.which c.args.node s.0 c.of-packet.result c.finish.new.self
-    c.finish.result c.requires.runs s.1 (for_there g at s.0 s.3) fresh free bytes
-    (taken g.row.A.Denot c.args.self.now c.finish.new.self _ c.args.node (Receives c.of-packet.result)
-    c.take-report.result c.finish.result (λ is. record {
-      node = given;
-      stands = stands;
-      after = c.take-report.new.node;
-      out = c.take-report.new.out.items;
-      steps = subst (λ (ps : List Posted). Receives c.of-packet.result given ps c.take-report.result
-          c.take-report.new.node c.take-report.new.out.items) empty c.take-report.ensures.takes;
-      booked = recorded_by g.row.A.Denot c.args.self.now c.finish.new.self c.args.node c.in-Some.place
-          c.take-report.result c.self.inside.nodes.items c.take-report.new.node c.self.inside.sent c.self.inside.last
-          c.self.inside.events c.self.inside.failed c.take-report.new.out.items c.self.view_is c.requires.whole f is;
-    }) c.finish.ensures.recorded)
+    let given = c.index_mut.result.now in (
+      deliverable_there g (goal.at.returns-clause-played g c).Else-draws_held (there g at) s.0 s.1 (for_there g at s.0 s.3)
+          s.2 s.4,
+      delivered g.row.A.Denot c.args.self.now c.args.which c.args.node s.0 c.of-packet.result _ c.take-report.result s.1
+          (for_there g at s.0 s.3) (c.of-packet.ensures ∙ s.4) (record {
+            node = given;
+            stands = node_stands c.args.self.now c.args.node c.self.inside.nodes.items c.in-Some.place given same f
+                (c.index_mut.ensures.value ∙ f.at given);
+            after = c.take-report.new.node;
+            out = c.take-report.new.out.items;
+            steps = subst (λ (ps : List Posted). Receives c.of-packet.result given ps c.take-report.result
+                c.take-report.new.node c.take-report.new.out.items) c.self.invariant.0 c.take-report.ensures.takes;
+            booked = recorded_by g.row.A.Denot g.row.A.Denot c.args.self.now c.args.node c.in-Some.place
+                c.take-report.result c.drawn_by.result c.self.inside.nodes.items c.take-report.new.node c.self.inside.log
+                c.record.new.self c.take-report.new.out.items c.drawn_by.ensures c.self.view_is f c.in-Ok.ensures.recorded;
+          }),
+    )
 
-pub returns-clause-not_played : goal.returns-clause-not_played
-returns-clause-not_played g c =
-    let at = (goal.at.returns-clause-not_played g c).In-Some in
-    let s = sent_there g (goal.at.returns-clause-not_played g c).After-get-sent in
-    let same = ap (λ (w : WorldState). w.nodes) c.self.view_is in
-    let bytes = c.of-packet.ensures ∙ s.4 in
-    let fresh = fresh_there c.args.self.now s.0 c.self.inside.last c.of-packet.result c.get-sent.result.event
-    (ap (λ (w : WorldState). w.last) c.self.view_is) bytes s.2 (c.is_fresh.ensures.fresh c.if-not-is_fresh.false) in
-    let free = subst (HeardFree c.args.self.now c.args.node) bytes
-    (subst (λ l. AreFree l c.args.node (λ n draw. DrawsHearing n c.of-packet.result draw))
-    (c.deref-2.ensures.value ∙ same) (c.draws_held.ensures.free c.if-draws_held.false)) in
-    not_delivered g.row.A.Denot c.args.self.now c.args.which c.args.node s.0 c.finish.new.self c.finish.result
-    c.requires.runs s.1 (for_there g at s.0 s.3) (there g at) fresh free
-    (subst (λ (sent : List SentDatagram). IfErr c.finish.result (λ f. (f ≡ fault.NoMemory)
-    × (c.finish.new.self.failed ≡ true) × (c.finish.new.self.sent ≡ sent)))
-    (ap (λ (w : WorldState). w.sent) c.self.view_is) c.finish.ensures.failed)
+pub returns-in_default-record-clause-not_played : goal.returns-in_default-record-clause-not_played
+returns-in_default-record-clause-not_played g c =
+    let at = (goal.at.returns-in_default-record-clause-not_played g c).In-Some in
+    let s = sent_there g (goal.at.returns-in_default-record-clause-not_played g c).After-get-sent in (
+      c.in_default-record.ensures.failed.0,
+      c.in_default-record.ensures.failed.1 ∙ ap (λ (w : WorldState). w.sent) c.self.view_is,
+      λ whole. deliverable_there g (goal.at.returns-in_default-record-clause-not_played g c).Else-draws_held (there g at)
+          s.0 s.1 (for_there g at s.0 s.3) s.2 s.4,
+    )
+
+-- ---- each node keeps to its limits
+
+pub returns-then-which-len-clause-within : goal.returns-then-which-len-clause-within
+returns-then-which-len-clause-within g c =
+    subst AreWithin (ap (λ (w : WorldState). w.nodes) c.self.view_is) c.self.invariant.1
+
+pub returns-then-not-is_for-clause-within : goal.returns-then-not-is_for-clause-within
+returns-then-not-is_for-clause-within g c =
+    subst AreWithin (ap (λ (w : WorldState). w.nodes) c.self.view_is) c.self.invariant.1
+
+pub returns-in_default-clause-within : goal.returns-in_default-clause-within
+returns-in_default-clause-within g c =
+    subst AreWithin (ap (λ (w : WorldState). w.nodes) c.self.view_is) c.self.invariant.1
+
+pub returns-then-not-is_fresh-clause-within : goal.returns-then-not-is_fresh-clause-within
+returns-then-not-is_fresh-clause-within g c =
+    subst AreWithin (ap (λ (w : WorldState). w.nodes) c.self.view_is) c.self.invariant.1
+
+pub returns-then-draws_held-clause-within : goal.returns-then-draws_held-clause-within
+returns-then-draws_held-clause-within g c =
+    subst AreWithin (ap (λ (w : WorldState). w.nodes) c.self.view_is) c.self.invariant.1
+
+pub invariant_of-self : goal.invariant_of-self
+invariant_of-self g c = (
+  c.record.ensures.emptied,
+  stays_within c.self.inside.nodes.items c.args.node c.in-Some.place c.take-report.new.node c.self.invariant.1
+      (stands_there g (goal.at.invariant_of-self g c).In-Some) c.take-report.ensures.within,
+)
+
+pub invariant_of-self-2 : goal.invariant_of-self-2
+invariant_of-self-2 g c = (
+  c.record.ensures.emptied,
+  stays_within c.self.inside.nodes.items c.args.node c.in-Some.place c.take-report.new.node c.self.invariant.1
+      (stands_there g (goal.at.invariant_of-self-2 g c).In-Some) c.take-report.ensures.within,
+)
+
+pub returns-in_default-record-clause-within : goal.returns-in_default-record-clause-within
+returns-in_default-record-clause-within g c =
+    stays_within c.self.inside.nodes.items c.args.node c.in-Some.place c.take-report.new.node c.self.invariant.1
+    (stands_there g (goal.at.returns-in_default-record-clause-within g c).In-Some) c.take-report.ensures.within
+
+pub returns-clause-within : goal.returns-clause-within
+returns-clause-within g c =
+    stays_within c.self.inside.nodes.items c.args.node c.in-Some.place c.take-report.new.node c.self.invariant.1
+    (stands_there g (goal.at.returns-clause-within g c).In-Some) c.take-report.ensures.within

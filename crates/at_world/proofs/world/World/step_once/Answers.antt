@@ -1,7 +1,7 @@
 use Rattle.std.proofs.Common.{◌≡◌, ap, refl, rules, sym, true, ◌∙◌}
 use Rattle.std.proofs.lemmas.Bool.{false≢true}
 use Rattle.at_world.specs.Worlds.{WorldState}
-use Rattle.at_world.proofs.EventLemmas.{called_by, came, fired, forged, not_called, not_came, not_fired, not_forged}
+use Rattle.at_world.proofs.EventLemmas.{brought, called_by, came, fired, not_brought, not_called, not_came, not_fired}
 use Rattle.at_world.proofs.world.World.step_once.Goals as goal
 
 pub returns-in-Timer-clause-played : goal.returns-in-Timer-clause-played
@@ -42,19 +42,13 @@ returns-in-Deliver-clause-not_played g c =
 
 pub returns-in-Forge-clause-played : goal.returns-in-Forge-clause-played
 returns-in-Forge-clause-played g c =
-    forged g.row.A.Denot c.args.self.now c.play-in-Forge.new.self c.args.event.now c.in-Forge.node c.in-Forge.bytes
-    (record { ref_ptr = (0, 0); now = c.of.result }) c.play-in-Forge.result c.in-Forge.is
-    (c.of.ensures ∙ c.as_slice.ensures)
-    (sym c.is_over.ensures ∙ c.if-is_over.false)
-    c.play-in-Forge.ensures.played c.play-in-Forge.ensures.free
+    brought g.row.A.Denot c.args.self.now c.forge.new.self c.args.event.now c.in-Forge.node c.in-Forge.bytes
+    c.as_slice.result.now c.forge.result c.in-Forge.is c.as_slice.ensures c.forge.ensures.played
 
 pub returns-in-Forge-clause-not_played : goal.returns-in-Forge-clause-not_played
 returns-in-Forge-clause-not_played g c =
-    not_forged g.row.A.Denot c.args.self.now c.play-in-Forge.new.self c.args.event.now c.in-Forge.node c.in-Forge.bytes
-    (record { ref_ptr = (0, 0); now = c.of.result }) c.play-in-Forge.result c.in-Forge.is
-    (c.of.ensures ∙ c.as_slice.ensures)
-    (sym c.is_over.ensures ∙ c.if-is_over.false)
-    c.play-in-Forge.ensures.not_played
+    not_brought g.row.A.Denot c.args.self.now c.forge.new.self c.args.event.now c.in-Forge.node c.in-Forge.bytes
+    c.as_slice.result.now c.forge.result c.in-Forge.is c.as_slice.ensures c.forge.ensures.not_played
 
 pub returns-then-self-clause-not_played : goal.returns-then-self-clause-not_played
 returns-then-self-clause-not_played g c =
