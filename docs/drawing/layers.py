@@ -1,4 +1,5 @@
-"""The layers of the crates, and a picture of them. Both the layers and who uses whom are read from crates.txt."""
+"""The layers of the crates, and a picture of them. Both the layers and who uses whom are read from crates.txt. The
+picture names no crate, so that a new one changes no picture."""
 
 import re
 from collections.abc import Iterator
@@ -23,7 +24,7 @@ BESIDE = "tests"
 HEADING = re.compile(r"(?m)^# layer (\w+): (.+)$")
 
 WIDTH, EDGE, BETWEEN, BELOW = 860, 20, 24, 26
-HEAD, LINE, SMALL = 26, 15, 11
+HEIGHT, SMALL = 28, 11
 
 
 class Wrong(Exception):
@@ -82,16 +83,6 @@ def reaches(above: str, below: str, direct: set[tuple[str, str]]) -> bool:
     return any(a == above and (b == below or reaches(b, below, direct)) for a, b in direct)
 
 
-def wrapped(crates: list[str], width: float) -> list[str]:
-    """The names of crates in lines that fit a width."""
-    lines = [""]
-    for name in crates:
-        if width_of(f"{lines[-1]} {name}", SMALL) > width:
-            lines.append("")
-        lines[-1] = f"{lines[-1]} {name}".strip()
-    return lines
-
-
 class Box(NamedTuple):
     """A layer, and where it is drawn."""
 
@@ -107,23 +98,19 @@ def boxes(layers: dict[str, Layer]) -> Iterator[Box]:
     y = 52.0
     for row in [[layers[name] for name in names] for names in [*ROWS, [BESIDE]]]:
         width = (WIDTH - 2 * EDGE - BETWEEN * (len(row) - 1)) / len(row)
-        lines = max(len(wrapped(it.crates, width - 24)) for it in row)
-        height = HEAD + LINE * lines + 10
         for at, layer in enumerate(row):
-            yield Box(layer, EDGE + at * (width + BETWEEN), y, width, height)
-        y += height + BELOW
+            yield Box(layer, EDGE + at * (width + BETWEEN), y, width, HEIGHT)
+        y += HEIGHT + BELOW
 
 
 def draw_box(picture: Picture, box: Box, fill: str) -> None:
-    """Draws a layer: its name, what it is for, and its crates."""
+    """Draws a layer: its name, and what it is for."""
     layer = box.layer
     dashes = {"stroke_dasharray": "4 3"} if layer.name == BESIDE else {}
     picture.box(box.x, box.y, box.width, box.height, fill, stroke=SOFT, rx=5, **dashes)
     picture.text(box.x + 12, box.y + 18, layer.name, 13, INK, font_weight="bold")
     after = box.x + 24 + width_of(layer.name, 13)
     picture.text(after, box.y + 18, layer.does, SMALL, INK)
-    for at, line in enumerate(wrapped(layer.crates, box.width - 24)):
-        picture.text(box.x + 12, box.y + HEAD + 10 + LINE * at, line, SMALL, SOFT)
 
 
 def draw_arrow(picture: Picture, x: float, start: float, end: float) -> None:
@@ -169,7 +156,7 @@ def draw_layers(top: Path) -> str:
     check(uses, layers)
     edges, placed = edges_of(uses, layers), {it.layer.name: it for it in boxes(layers)}
     rows = [layers[name] for row in [*ROWS, [BESIDE]] for name in row]
-    told = [f"{it.name}, {it.does}: {', '.join(it.crates)}." for it in rows]
+    told = [f"{it.name}, {it.does}." for it in rows]
     told += [f"{above} uses {below}." for above, below in edges]
     picture = Picture("The layers of atnode", " ".join(told))
     picture.text(EDGE, 32, "An arrow leads from a layer to one that it uses.", 12, SOFT)

@@ -18,7 +18,7 @@ use Rattle.at_adsp_end.specs.Positions.{whole}
 use Rattle.at_adsp_end.specs.Sending.{acks}
 use Rattle.at_adsp_end.specs.declared.phase.Phase.TheVariants as phase
 use Rattle.at_adsp_end.specs.declared.remote.Remote.{Remote}
-use Rattle.at_adsp_end.specs.declared.step.Step.TheVariants as step
+use Rattle.at_adsp_end.specs.declared.change.EndChange.TheVariants as step
 use Rattle.at_adsp_ends.specs.Openings.{ack_came, answer_came, answers_again, confirms_again, connected_to, denial_came}
 use Rattle.at_adsp_ends.specs.Openings.{heard_opening, ignored, is_answered, opened, request_came, room_for}
 use Rattle.at_adsp_ends.specs.Receiving.{any_request_came, opening_came, part_came, segment_came, settled}

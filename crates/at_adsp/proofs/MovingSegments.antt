@@ -19,8 +19,8 @@ use Rattle.at_adsp_end.specs.declared.fault.StreamFault.TheVariants.{NoRoom, Not
 use Rattle.at_adsp_end.specs.declared.item.Item.{Item}
 use Rattle.at_adsp_end.specs.declared.phase.Phase.TheVariants as phase
 use Rattle.at_adsp_end.specs.declared.remote.Remote.{Remote}
-use Rattle.at_adsp_end.specs.declared.step.Step.{Step}
-use Rattle.at_adsp_end.specs.declared.step.Step.TheVariants as step
+use Rattle.at_adsp_end.specs.declared.change.EndChange.{EndChange}
+use Rattle.at_adsp_end.specs.declared.change.EndChange.TheVariants as step
 use Rattle.at_adsp_end.specs.declared.tick.Tick.{Tick}
 use Rattle.at_adsp_end.specs.declared.tick.Tick.TheVariants as timer
 use Rattle.at_adsp_ends.specs.Calls.{closed_at, connected, finds_no_room, frees, read_at, reset_at, ticked_at, wrote}
@@ -44,7 +44,7 @@ module _ (N : Numbers) (adds : Adds N) (t : EndTable) (differ : IdsDiffer t.ends
   abbrev r : Remote
   r = record { address = from; id = s.source }
 
-  abbrev Goes : Done Step → Type 0
+  abbrev Goes : Done EndChange → Type 0
   Goes d = AllMoveOn N s.window t d.after
 
   nothing : Goes (ignored t)

@@ -23,9 +23,6 @@ pub record Near (a b : ℕ) : Type 0 where
   pub on : b < a + 2 ^ 31
   pub back : a < b + 2 ^ 31
 
-pub near_back : (a b : ℕ) → Near a b → Near b a
-near_back a b h = record { on = h.back; back = h.on }
-
 ahead_near : (a b : ℕ) → Near a b → wire.ahead (a % M) (b % M) ≡ whole.ahead a b
 ahead_near a b h = go (nat_le a b) refl
   where

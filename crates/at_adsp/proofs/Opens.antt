@@ -17,8 +17,8 @@ use Rattle.at_adsp_end.specs.Positions.{Numbers}
 use Rattle.at_adsp_end.specs.Sending.{acks, hearing}
 use Rattle.at_adsp_end.specs.declared.phase.Phase.TheVariants as phase
 use Rattle.at_adsp_end.specs.declared.remote.Remote.{Remote}
-use Rattle.at_adsp_end.specs.declared.step.Step.{Step}
-use Rattle.at_adsp_end.specs.declared.step.Step.TheVariants as step
+use Rattle.at_adsp_end.specs.declared.change.EndChange.{EndChange}
+use Rattle.at_adsp_end.specs.declared.change.EndChange.TheVariants as step
 use Rattle.at_adsp_ends.specs.Openings.{ack_came, answer_came, answers_again, confirms_again, connected_to, denial_came}
 use Rattle.at_adsp_ends.specs.Openings.{heard_opening, ignored, is_answered, opened, request_came, room_for}
 use Rattle.at_adsp_ends.specs.Receiving.{any_request_came, opening_came, part_came, received, segment_came, settled}
@@ -37,11 +37,11 @@ pub record Opens (old new : EndTable) (id : ℕ) : Type 0 where
   pub opened : has_opened after.phase ≡ true
 
 -- this holds of an end that opens by the step
-abbrev pub OpensBy : EndTable → EndTable → Step → Type 0
+abbrev pub OpensBy : EndTable → EndTable → EndChange → Type 0
 OpensBy old new (step.Opened id) = Opens old new id
 OpensBy old new other = Unit {0}
 
-quiet_opens : (old new : EndTable) (s : Step) → IsQuiet s → OpensBy old new s
+quiet_opens : (old new : EndTable) (s : EndChange) → IsQuiet s → OpensBy old new s
 quiet_opens old new (step.Opened id) quiet = absurd quiet
 quiet_opens old new other quiet = tt
 
@@ -49,7 +49,7 @@ module _ (N : Numbers) (t : EndTable) (from : Address) (s : Content) where
   abbrev r : Remote
   r = record { address = from; id = s.source }
 
-  abbrev After : Done Step → Type 0
+  abbrev After : Done EndChange → Type 0
   After d = OpensBy t d.after d.answer
 
   -- the end that opens, after it heard what opened it

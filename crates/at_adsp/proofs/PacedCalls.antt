@@ -14,7 +14,7 @@ use Rattle.at_adsp_end.specs.declared.fault.StreamFault.TheVariants.{NotOpen, No
 use Rattle.at_adsp_end.specs.declared.item.Item.{Item}
 use Rattle.at_adsp_end.specs.declared.phase.Phase.{Phase}
 use Rattle.at_adsp_end.specs.declared.phase.Phase.TheVariants as phase
-use Rattle.at_adsp_end.specs.declared.step.Step.TheVariants as step
+use Rattle.at_adsp_end.specs.declared.change.EndChange.TheVariants as step
 use Rattle.at_adsp_end.specs.declared.tick.Tick.{Tick}
 use Rattle.at_adsp_end.specs.declared.tick.Tick.TheVariants.{Retransmit, Probe}
 use Rattle.at_adsp_ends.specs.Calls.{closed_at, connected, finds_no_room, frees, listened, read_at, reset_at, ticked_at}

@@ -12,7 +12,7 @@ use Rattle.at_adsp_end.specs.Positions.{whole}
 use Rattle.at_adsp_end.specs.Sending.{acks}
 use Rattle.at_adsp_end.specs.declared.phase.Phase.TheVariants as phase
 use Rattle.at_adsp_end.specs.declared.remote.Remote.{Remote}
-use Rattle.at_adsp_end.specs.declared.step.Step.TheVariants as step
+use Rattle.at_adsp_end.specs.declared.change.EndChange.TheVariants as step
 use Rattle.at_adsp_ends.specs.Openings.{heard_opening, opened}
 use Rattle.at_adsp_ends.specs.Tables.{EndTable, by_id, has_id}
 use Rattle.at_ddp.specs.Posts.{AllSent, put, stamped}

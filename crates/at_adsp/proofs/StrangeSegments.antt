@@ -16,8 +16,8 @@ use Rattle.at_adsp_end.specs.Sending.{acks, hearing}
 use Rattle.at_adsp_end.specs.declared.forward.Forward.TheVariants.{Jump, Older, Beyond}
 use Rattle.at_adsp_end.specs.declared.phase.Phase.TheVariants as phase
 use Rattle.at_adsp_end.specs.declared.remote.Remote.{Remote}
-use Rattle.at_adsp_end.specs.declared.step.Step.{Step}
-use Rattle.at_adsp_end.specs.declared.step.Step.TheVariants as step
+use Rattle.at_adsp_end.specs.declared.change.EndChange.{EndChange}
+use Rattle.at_adsp_end.specs.declared.change.EndChange.TheVariants as step
 use Rattle.at_adsp_ends.specs.Openings.{ack_came, answer_came, confirms_again, connected_to, denial_came, heard_opening}
 use Rattle.at_adsp_ends.specs.Openings.{ignored, is_answered, opened}
 use Rattle.at_adsp_ends.specs.Receiving.{opening_came, part_came, received, segment_came, settled}
@@ -33,18 +33,18 @@ use Rattle.at_adsp.proofs.WireSegments.{any_wired, denial_wired, none_wired}
 use Rattle.at_adsp.proofs.Wires.{control_wired, heard_wired, hearing_wired, wired_change}
 
 -- the same is done, and an end is made here where one is made there
-pub record Alike (d k : Done Step) : Type 0 where
+pub record Alike (d k : Done EndChange) : Type 0 where
   pub after : d.after ≡ k.after
   pub changed : d.changed ≡ k.changed
   pub sent : d.sent ≡ k.sent
   pub makes : (id : ℕ) → k.answer ≡ step.Made id → d.answer ≡ step.Made id
 
-alike_same : (d k : Done Step) → d ≡ k → Alike d k
+alike_same : (d k : Done EndChange) → d ≡ k → Alike d k
 alike_same d k h = record {
-  after = ap (λ (x : Done Step). x.after) h;
-  changed = ap (λ (x : Done Step). x.changed) h;
-  sent = ap (λ (x : Done Step). x.sent) h;
-  makes = λ id is. ap (λ (x : Done Step). x.answer) h ∙ is;
+  after = ap (λ (x : Done EndChange). x.after) h;
+  changed = ap (λ (x : Done EndChange). x.changed) h;
+  sent = ap (λ (x : Done EndChange). x.sent) h;
+  makes = λ id is. ap (λ (x : Done EndChange). x.answer) h ∙ is;
 }
 
 -- what an open end hears makes no end
@@ -92,7 +92,7 @@ module _ (t : EndTable) (from : Address) (s : Content)
   }
 
   -- with another number it does the same
-  record ByNext (d : Done Step) (k : Content → Done Step) : Type 0 where
+  record ByNext (d : Done EndChange) (k : Content → Done EndChange) : Type 0 where
     next : ℕ
     same : d ≡ wired_done (k (but_next next))
 
@@ -178,7 +178,7 @@ module _ (t : EndTable) (from : Address) (s : Content)
   -- ---- other segments
 
   -- another segment of this end, which opens nothing
-  record BySegment (d : Done Step) (o : Option EndState) : Type 0 where
+  record BySegment (d : Done EndChange) (o : Option EndState) : Type 0 where
     segment : Content
     source : segment.source ≡ s.source
     window : segment.window ≡ s.window
@@ -221,15 +221,15 @@ module _ (t : EndTable) (from : Address) (s : Content)
             window = l.window;
             plain = l.plain;
             alike = record {
-              after = ap (λ (x : Done Step). x.after) d ∙ ap (λ (x : Done Step). wired_table x.after) k
-                  ∙ ap (λ (x : Done Step). wired_table x.after) (sym is);
-              changed = ap (λ (x : Done Step). x.changed) d ∙ ap (λ (x : Done Step). mapped wired x.changed) k
-                  ∙ ap (λ (x : Done Step). mapped wired x.changed) (sym is);
-              sent = ap (λ (x : Done Step). x.sent) d ∙ ap (λ (x : Done Step). (wired_done x).sent) k
-                  ∙ ap (λ (x : Done Step). (wired_done x).sent) (sym is);
+              after = ap (λ (x : Done EndChange). x.after) d ∙ ap (λ (x : Done EndChange). wired_table x.after) k
+                  ∙ ap (λ (x : Done EndChange). wired_table x.after) (sym is);
+              changed = ap (λ (x : Done EndChange). x.changed) d ∙ ap (λ (x : Done EndChange). mapped wired x.changed) k
+                  ∙ ap (λ (x : Done EndChange). mapped wired x.changed) (sym is);
+              sent = ap (λ (x : Done EndChange). x.sent) d ∙ ap (λ (x : Done EndChange). (wired_done x).sent) k
+                  ∙ ap (λ (x : Done EndChange). (wired_done x).sent) (sym is);
               makes = λ id made.
                   never_makes (hearing whole e l.segment.window (acks whole e.sender l.segment.next)) l.segment.ack
-                  (told whole e l.segment).saying id (sym (ap (λ (x : Done Step). x.answer) is) ∙ made);
+                  (told whole e l.segment).saying id (sym (ap (λ (x : Done EndChange). x.answer) is) ∙ made);
             };
           }
       go false h = record {
@@ -269,12 +269,14 @@ module _ (t : EndTable) (from : Address) (s : Content)
         source = h.source;
         window = h.window;
         alike = record {
-          after = ap (λ (x : Done Step). x.after) here ∙ a.after ∙ ap (λ (x : Done Step). wired_table x.after) there;
-          changed = ap (λ (x : Done Step). x.changed) here ∙ a.changed
-              ∙ ap (λ (x : Done Step). mapped wired x.changed) there;
-          sent = ap (λ (x : Done Step). x.sent) here ∙ a.sent ∙ ap (λ (x : Done Step). (wired_done x).sent) there;
-          makes = λ id made. ap (λ (x : Done Step). x.answer) here
-              ∙ a.makes id (ap (λ (x : Done Step). x.answer) there ∙ made);
+          after = ap (λ (x : Done EndChange). x.after) here ∙ a.after
+              ∙ ap (λ (x : Done EndChange). wired_table x.after) there;
+          changed = ap (λ (x : Done EndChange). x.changed) here ∙ a.changed
+              ∙ ap (λ (x : Done EndChange). mapped wired x.changed) there;
+          sent = ap (λ (x : Done EndChange). x.sent) here ∙ a.sent
+              ∙ ap (λ (x : Done EndChange). (wired_done x).sent) there;
+          makes = λ id made. ap (λ (x : Done EndChange). x.answer) here
+              ∙ a.makes id (ap (λ (x : Done EndChange). x.answer) there ∙ made);
         };
       }
 

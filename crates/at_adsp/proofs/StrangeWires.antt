@@ -1,20 +1,19 @@
 -- What happens in a network on the cable also happens, perhaps with other segments from strange addresses, where
 -- numbers may be of any size.
-use Rattle.std.proofs.Common.{◌≡◌, ℕ, ◌^◌, ◌<◌, ◌≤◌, Bool, true, false, ◌++◌, length, map, Option, Some, None, ◌⊎◌, inl}
-use Rattle.std.proofs.Common.{inr, refl, sym, ap, subst, ◌∙◌, lit<}
-use Rattle.std.specs.Prelude.{find, ◌||◌}
-use Rattle.std.proofs.lemmas.Bool.{true≢false, or_cases}
-use Rattle.at_ddp.specs.Address.{same_address}
-use Rattle.at_ddp.proofs.Octets.{same_address-true, same_both}
+use Rattle.std.proofs.Common.{◌≡◌, ℕ, ◌^◌, ◌<◌, ◌≤◌, Bool, true, false, ◌++◌, length, map, Option, Some, None}
+use Rattle.std.proofs.Common.{refl, sym, ap, subst, ◌∙◌, lit<}
+use Rattle.std.specs.Prelude.{find}
+use Rattle.std.proofs.lemmas.Bool.{true≢false}
+use Rattle.at_ddp.proofs.Octets.{same_both}
 use Rattle.at_ddp.specs.declared.address.Address.{Address}
 use Rattle.at_ddp.proofs.Alls.{all_found}
 use Rattle.at_adsp_frame.specs.Segments.{Content}
 use Rattle.at_adsp_end.specs.Ends.{EndState, has_remote, is_closed, is_open, is_remote}
 use Rattle.at_adsp_end.specs.Positions.{whole, wire}
 use Rattle.at_adsp_end.specs.declared.remote.Remote.{Remote}
-use Rattle.at_adsp_end.specs.declared.step.Step.{Step}
+use Rattle.at_adsp_end.specs.declared.change.EndChange.{EndChange}
 use Rattle.at_adsp_ends.specs.Receiving.{received}
-use Rattle.at_adsp_ends.specs.Tables.{Done, by_id, by_remote, has_id}
+use Rattle.at_adsp_ends.specs.Tables.{Done, by_remote}
 use Rattle.at_adsp.specs.Cables.{wire_numbered}
 use Rattle.at_adsp.specs.Network.{Setting, Sent, Network, Happening, Connects, Listens, Closes, Writes, Reads, Resets}
 use Rattle.at_adsp.specs.Network.{Ticks, Takes, Strange, Other}
@@ -29,7 +28,7 @@ use Rattle.at_adsp.proofs.Flows.{FlowOf, Flows}
 use Rattle.at_adsp.proofs.Lifts.{CanLift}
 use Rattle.at_adsp.proofs.Mapped.{mapped}
 use Rattle.at_adsp.proofs.Receptions.{own_remote}
-use Rattle.at_adsp.proofs.Sound.{IsKnown, Knows, Reaches, Sound, reached}
+use Rattle.at_adsp.proofs.Sound.{Knows, Reaches, Sound}
 use Rattle.at_adsp.proofs.Steps.{found_passes, found_stands, stands_known}
 use Rattle.at_adsp.proofs.StrangeSegments.{Alike, LiftedAt, received_lifts}
 use Rattle.at_adsp.proofs.WireCalls.{wired_done, wired_table}
@@ -55,23 +54,6 @@ remote_is : (r : Remote) (o : Option Remote) → is_remote r o ≡ true → o �
 remote_is r None h = absurd (true≢false (sym h))
 remote_is r (Some q) h = let both = same_both r.address q.address r.id q.id h in
     ap Some (λ i. record { address = sym both.0 i; id = sym both.1 i })
-
--- whom an end asked, or who asked it, that opens by what comes from there
-pub opening_asked : (setting : Setting) (events : ℕ) (n : Network) (at from : Address) (source dest : ℕ) (e : EndState)
-    → Sound setting events n → by_id (n.tables at) dest ≡ Some e →
-    (has_remote (record { address = from; id = source }) e || same_address e.asked from) ≡ true → e.asked ≡ from
-opening_asked setting events n at from source dest e sound is asks =
-    go (or_cases (has_remote (record { address = from; id = source }) e) (same_address e.asked from) asks)
-  where
-    known : IsKnown e
-    known = stands_known setting events n at e sound (found_stands setting events n at (has_id dest) e sound is)
-
-    go : (has_remote (record { address = from; id = source }) e ≡ true) ⊎ (same_address e.asked from ≡ true) → e.asked
-        ≡ from
-    go (inl remote) =
-        sym (reached e.phase e.listener e.asked e.remote (record { address = from; id = source }) known
-        (remote_is (record { address = from; id = source }) e.remote remote))
-    go (inr same) = same_address-true e.asked from same
 
 module _ (setting : Setting) (n : Network) (sound : Sound (whole_numbered setting) n.event n) (flow : FlowOf n.event n)
     (unread : (at : Address) (q : EndState → Bool) (e : EndState) → find q (n.tables at).ends ≡ Some e
@@ -99,7 +81,8 @@ module _ (setting : Setting) (n : Network) (sound : Sound (whole_numbered settin
           ≡ 0 = ap (λ (x : EndState). length x.sender.unacknowledged) (sym st.last) ∙ ap length none in
           subst (λ k. k < 2 ^ 31) (sym many) (lit< tt)
 
-  alike_does : (at : Address) (d k : Done Step) → Alike d (wired_done k) → does_with Nothing C (wired_network n) at d
+  alike_does : (at : Address) (d k : Done EndChange) → Alike d (wired_done k)
+      → does_with Nothing C (wired_network n) at d
       ≡ wired_network (does_with Nothing W n at k)
   alike_does at d k a =
       (λ i. record {

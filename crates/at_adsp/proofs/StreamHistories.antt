@@ -16,8 +16,8 @@ use Rattle.at_adsp_end.specs.Sending.{closing, resetting_now}
 use Rattle.at_adsp_end.specs.declared.fault.StreamFault.TheVariants.{NoRoom, NotOpen}
 use Rattle.at_adsp_end.specs.declared.item.Item.{Item}
 use Rattle.at_adsp_end.specs.declared.phase.Phase.TheVariants as phase
-use Rattle.at_adsp_end.specs.declared.step.Step.{Step}
-use Rattle.at_adsp_end.specs.declared.step.Step.TheVariants as step
+use Rattle.at_adsp_end.specs.declared.change.EndChange.{EndChange}
+use Rattle.at_adsp_end.specs.declared.change.EndChange.TheVariants as step
 use Rattle.at_adsp_end.specs.declared.tick.Tick.{Tick}
 use Rattle.at_adsp_end.specs.declared.tick.Tick.TheVariants.{Retransmit, Probe}
 use Rattle.at_adsp_ends.specs.Calls.{closed_at, connected, finds_no_room, frees, read_at, reset_at, ticked_at, wrote}
@@ -37,12 +37,12 @@ use Rattle.at_adsp.proofs.Steps.{deed_streams, found_passes, quiet_streams}
 
 -- ---- steps that make and open nothing
 
-abbrev pub IsQuiet : Step → Type 0
+abbrev pub IsQuiet : EndChange → Type 0
 IsQuiet (step.Made id) = ⊥
 IsQuiet (step.Opened id) = ⊥
 IsQuiet other = Unit {0}
 
-pub after_quiet : (old new : Network) (at from : Address) (s : Step) → IsQuiet s → streams new ≡ streams old
+pub after_quiet : (old new : Network) (at from : Address) (s : EndChange) → IsQuiet s → streams new ≡ streams old
     → AfterStep old new at from s
 after_quiet old new at from (step.Made id) quiet same = absurd quiet
 after_quiet old new at from (step.Opened id) quiet same = absurd quiet

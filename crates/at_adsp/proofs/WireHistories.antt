@@ -4,7 +4,7 @@ use Rattle.std.specs.Prelude.{◌==◌, ◌&&◌, ◌||◌}
 use Rattle.at_ddp.specs.declared.address.Address.{Address}
 use Rattle.at_adsp_frame.specs.Segments.{Content}
 use Rattle.at_adsp_end.specs.declared.remote.Remote.{Remote}
-use Rattle.at_adsp_end.specs.declared.step.Step.{Step}
+use Rattle.at_adsp_end.specs.declared.change.EndChange.{EndChange}
 use Rattle.at_adsp_ends.specs.Tables.{Done, by_remote}
 use Rattle.at_adsp.specs.Cables.{wire_numbered}
 use Rattle.at_adsp.specs.Network.{Setting, Made, Sent, Network, Happening, Connects, Listens, Closes, Writes, Reads}
@@ -56,7 +56,7 @@ module _ (setting : Setting) (n : Network) where
   pub makes_whole : (at from : Address) (s : Content) → HearsNear (n.tables at) from s s.body
       → MakesInTime C (wired_network n) at from (wired_segment s) → MakesInTime W n at from s
   makes_whole at from s near h id is =
-      names_none n at id (h id (ap (λ (d : Done Step). d.answer) (received_wired (n.tables at) from s near) ∙ is))
+      names_none n at id (h id (ap (λ (d : Done EndChange). d.answer) (received_wired (n.tables at) from s near) ∙ is))
 
   pub timely_whole : (h : Happening) → ComesNear setting n h → IsTimely C (wired_network n) h → IsTimely W n h
   timely_whole (Connects at to) near h = λ id is. names_none n at id (h id (next_wired (n.tables at) ∙ is))

@@ -17,8 +17,8 @@ use Rattle.at_adsp_end.specs.Positions.{whole, wire}
 use Rattle.at_adsp_end.specs.Sending.{acks, hearing}
 use Rattle.at_adsp_end.specs.declared.phase.Phase.TheVariants as phase
 use Rattle.at_adsp_end.specs.declared.remote.Remote.{Remote}
-use Rattle.at_adsp_end.specs.declared.step.Step.{Step}
-use Rattle.at_adsp_end.specs.declared.step.Step.TheVariants as step
+use Rattle.at_adsp_end.specs.declared.change.EndChange.{EndChange}
+use Rattle.at_adsp_end.specs.declared.change.EndChange.TheVariants as step
 use Rattle.at_adsp_ends.specs.Openings.{ack_came, answer_came, answers_again, confirms_again, connected_to, denial_came}
 use Rattle.at_adsp_ends.specs.Openings.{heard_opening, ignored, is_answered, opened, request_came, room_for}
 use Rattle.at_adsp_ends.specs.Receiving.{any_request_came, opening_came, part_came, received, segment_came, settled}
@@ -142,7 +142,7 @@ module _ (t : EndTable) (from : Address) (s : Content) where
       f : EndState
       f = connected_to e r
 
-      again : Bool → Done Step
+      again : Bool → Done EndChange
       again c = cond c (stayed T step.Again (wired e) (confirming wire (wired e) ∷ [])) (ignored T)
 
       go : (b : Bool) → is_answered e r there ≡ b → (c : Bool) →

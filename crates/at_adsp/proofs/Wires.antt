@@ -8,7 +8,7 @@ use Rattle.at_adsp_end.specs.Ends.{Change, EndState, control, packet}
 use Rattle.at_adsp_end.specs.Hearing.{Advises, Answers, Asks, Brings, Closes, Resets, Saying, Told, after_hearing}
 use Rattle.at_adsp_end.specs.Hearing.{heard, if_asked, jumped, taken, taking}
 use Rattle.at_adsp_end.specs.declared.forward.Forward.TheVariants.{Jump, Older, Beyond}
-use Rattle.at_adsp_end.specs.declared.step.Step.TheVariants.{Heard, Dropped, Closed}
+use Rattle.at_adsp_end.specs.declared.change.EndChange.TheVariants.{Heard, Dropped, Closed}
 use Rattle.at_adsp_end.specs.Positions.{whole, wire}
 use Rattle.at_adsp_end.specs.Sending.{acknowledged, going, hearing, repeated, sending, shut}
 use Rattle.at_adsp_end.specs.declared.item.Item.{Item}

@@ -3,8 +3,8 @@
 use Rattle.std.specs.Prelude.{◌≡◌, ℕ, Bool, true, false, List, [], ◌∷◌, map, Option, Some, None, Result, Ok, Err}
 use Rattle.at_ddp.specs.declared.address.Address.{Address}
 use Rattle.at_adsp_end.specs.declared.fault.StreamFault.{StreamFault}
-use Rattle.at_adsp_end.specs.declared.step.Step.{Step}
-use Rattle.at_adsp_end.specs.declared.step.Step.TheVariants as step
+use Rattle.at_adsp_end.specs.declared.change.EndChange.{EndChange}
+use Rattle.at_adsp_end.specs.declared.change.EndChange.TheVariants as step
 use Rattle.at_adsp_ends.specs.Calls.{wrote, read_at, reset_at}
 use Rattle.at_adsp_ends.specs.Receiving.{received}
 use Rattle.at_adsp_ends.specs.Tables.{Done, by_id, next_id}
@@ -37,7 +37,7 @@ AfterConnecting old new at to (Some id) = streams new ≡ begun old.event at id 
 
 -- A segment from an address comes to another, and this is the step there. An end that opens may have a peer from then
 -- on.
-abbrev pub AfterStep : Network → Network → Address → Address → Step → Type 0
+abbrev pub AfterStep : Network → Network → Address → Address → EndChange → Type 0
 AfterStep old new at from (step.Made id) = streams new ≡ begun old.event at id true from ∷ streams old
 AfterStep old new at from (step.Opened id) =
     (peer : Option ℕ) × (streams new ≡ with_peer at id peer (streams old))
@@ -67,8 +67,8 @@ ChangesStreams setting n (Reads at id count) =
 ChangesStreams setting n (Resets at id) =
     AfterCall n (done setting n (Resets at id)) at id gave_up
     (reset_at setting.numbers (n.tables at) (by_id (n.tables at) id))
-ChangesStreams setting n (Takes which) =
-    AfterSegment setting n (done setting n (Takes which)) (packet_at n.sent which)
+ChangesStreams setting n (Takes datagram) =
+    AfterSegment setting n (done setting n (Takes datagram)) (packet_at n.sent datagram)
 ChangesStreams setting n (Strange at from segment) =
     AfterStep n (done setting n (Strange at from segment)) at from
     (received setting.numbers (n.tables at) from segment).answer

@@ -45,8 +45,8 @@ pub record IsNear (setting : Setting) (history : List Happening) (s : Sent) : Ty
 
 -- Each segment that comes is near the end that sent it, if that is for one of our addresses.
 abbrev pub ComesNear : Setting → List Happening → Happening → Type 0
-ComesNear setting history (Takes which) =
-    (s : Sent) → packet_at (after setting history).sent which ≡ Some s
+ComesNear setting history (Takes datagram) =
+    (s : Sent) → packet_at (after setting history).sent datagram ≡ Some s
     → (m : Made) → newest (after setting history).made s.from s.packet.source ≡ Some m
     → setting.ours m.stream.asked ≡ true → IsNear setting history s
 ComesNear setting history other = Unit {0}

@@ -14,7 +14,7 @@ use Rattle.at_adsp_end.specs.declared.fault.StreamFault.{StreamFault}
 use Rattle.at_adsp_end.specs.declared.item.Item.{Item}
 use Rattle.at_adsp_end.specs.declared.remote.Remote.{Remote}
 use Rattle.at_adsp_end.specs.declared.rooms.Rooms.{Rooms}
-use Rattle.at_adsp_end.specs.declared.step.Step.TheVariants.{Made as made_step}
+use Rattle.at_adsp_end.specs.declared.change.EndChange.TheVariants.{Made as made_step}
 use Rattle.at_adsp_end.specs.declared.tick.Tick.{Tick}
 use Rattle.at_adsp_ends.specs.Calls.{listened, connected, closed_at, ticked_at, read_at, reset_at, wrote}
 use Rattle.at_adsp_ends.specs.Receiving.{received}
@@ -146,7 +146,7 @@ pub data Happening : Type 0 where
   -- a timer of an end fires
   Ticks : (at : Address) (id : ℕ) (tick : Tick) → Happening
   -- a segment comes to the address that it was sent to
-  Takes : (which : ℕ) → Happening
+  Takes : (datagram : ℕ) → Happening
   -- a segment comes from an address that is not described here
   Strange : (at from : Address) (segment : Content) → Happening
   -- an event outside this network, which sends so many foreign datagrams
@@ -203,7 +203,7 @@ done setting n (Resets at id) =
     calls_with gave_up setting n at (reset_at setting.numbers (n.tables at) (by_id (n.tables at) id))
 done setting n (Ticks at id tick) =
     calls setting n at (ticked_at setting.numbers (n.tables at) tick (by_id (n.tables at) id))
-done setting n (Takes which) = takes setting n (packet_at n.sent which)
+done setting n (Takes datagram) = takes setting n (packet_at n.sent datagram)
 done setting n (Strange at from segment) = hears setting n at from segment
 done setting n (Other count) = record n { sent = n.sent ++ replicate count None }
 
@@ -249,8 +249,8 @@ MakesInTime setting n at from s =
 -- as its remote. Other segments come from other addresses.
 abbrev pub IsTimely : Setting → Network → Happening → Type 0
 IsTimely setting n (Connects at to) = (id : ℕ) → next_id (n.tables at) ≡ Some id → NoneNames n at id
-IsTimely setting n (Takes which) =
-    (s : Sent) → packet_at n.sent which ≡ Some s
+IsTimely setting n (Takes datagram) =
+    (s : Sent) → packet_at n.sent datagram ≡ Some s
     → (setting.ours s.to ≡ true) × (is_fresh n.made s ≡ true) × MakesInTime setting n s.to s.from s.packet
 IsTimely setting n (Strange at from segment) =
     (setting.ours at ≡ true) × (setting.ours from ≡ false) × MakesInTime setting n at from segment

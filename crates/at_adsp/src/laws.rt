@@ -17,7 +17,7 @@ ghost use Rattle.at_adsp.specs.Numbered.{numbered_within};
 ghost use Rattle.at_adsp_end.specs.Ends.{EndState, free, has_opened};
 ghost use Rattle.at_adsp_end.specs.Hearing.{Told, heard, rest, taken};
 ghost use Rattle.at_adsp_end.specs.Positions.{whole, wire};
-ghost use Rattle.at_adsp_end.specs.declared.step.Step.TheVariants.{Opened};
+ghost use Rattle.at_adsp_end.specs.declared.change.EndChange.TheVariants.{Opened};
 ghost use Rattle.at_adsp_end.specs.declared.item.Item.{Item};
 ghost use Rattle.at_adsp_ends.specs.Calls.{read_at};
 ghost use Rattle.at_adsp_ends.specs.Receiving.{received};
@@ -63,11 +63,11 @@ pub fn streams_change_by_one()
 /// listening made the peer where it asked, and no other end has that peer. If listening made it, the peer asked, and
 /// has it as its peer. All this holds of timely histories, whatever the numbers of segments are.
 pub fn an_end_that_opens_has_a_peer()
-    ensures { (setting : Setting) (history : List Happening) (which id : ℕ) (s : Sent)
-        → AllTimely setting (Takes which ∷ history) → AllByRecursion (HappensHere setting) history
-        → packet_at (after setting history).sent which ≡ Some s
+    ensures { (setting : Setting) (history : List Happening) (datagram id : ℕ) (s : Sent)
+        → AllTimely setting (Takes datagram ∷ history) → AllByRecursion (HappensHere setting) history
+        → packet_at (after setting history).sent datagram ≡ Some s
         → (received setting.numbers ((after setting history).tables s.to) s.from s.packet).answer ≡ Opened id
-        → OpensWith (streams (after setting history)) (streams (done setting (after setting history) (Takes which)))
+        → OpensWith (streams (after setting history)) (streams (done setting (after setting history) (Takes datagram)))
         s.to id }
 {}
 

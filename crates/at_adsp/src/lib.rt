@@ -4,7 +4,7 @@
 
 pub mod laws;
 
-pub use at_adsp_ends::{Ends, Item, MAX_ENDS, Phase, Remote, Rooms, Step, StreamFault, Tick};
+pub use at_adsp_ends::{EndChange, Ends, Item, MAX_ENDS, Phase, Remote, Rooms, StreamFault, Tick};
 pub use at_adsp_frame::{
     AdspFault, Body, HEADER_LEN, MAX_DATA, OpenKind, SEGMENT_LEN, Segment, before, decode, encode,
     send,

@@ -1,7 +1,6 @@
 -- The items of a segment that are not received yet.
-use Rattle.std.proofs.Common.{◌≡◌, ℕ, zero, suc, ◌+◌, ◌≤◌, ◌<◌, Bool, true, false, List, [], ◌∷◌, length, drop, refl}
+use Rattle.std.proofs.Common.{◌≡◌, ℕ, zero, suc, ◌+◌, ◌≤◌, Bool, true, false, List, [], ◌∷◌, length, drop, refl}
 use Rattle.std.proofs.Common.{arith}
-use Rattle.std.proofs.lemmas.List.{drop_all}
 use Rattle.at_adsp_end.specs.Cuts.{items_in}
 
 pub items_dropped : (end : Bool) (bytes : List ℕ) (d : ℕ) → d ≤ length bytes → drop d (items_in end bytes)
@@ -14,6 +13,3 @@ items_few : (end : Bool) (bytes : List ℕ) → length (items_in end bytes) ≤ 
 items_few true [] = omega arith
 items_few false [] = omega arith
 items_few end (b ∷ bytes) = let few = items_few end bytes in omega (arith, few)
-
-pub items_past : (end : Bool) (bytes : List ℕ) (d : ℕ) → length bytes < d → drop d (items_in end bytes) ≡ []
-items_past end bytes d h = drop_all d (items_in end bytes) (let few = items_few end bytes in omega (arith, few, h))

@@ -6,7 +6,6 @@ use Rattle.std.specs.Prelude.{◌==◌, slice_get}
 use Rattle.std.proofs.lemmas.List.{length-append, length-take}
 use Rattle.std.proofs.lemmas.Bool.Decides.{nat_tests}
 use Rattle.at_ddp.specs.Outbox.{Outbox}
-use Rattle.at_ddp.proofs.OutboxLemmas.{sends_nothing}
 use Rattle.at_adsp_frame.specs.Segments.{Content, Data}
 use Rattle.at_adsp_end.specs.Cuts.{Piece, bytes_of, cut_now, pieces, last_piece, open_piece, items_in}
 use Rattle.at_adsp_end.specs.Cuts.{items_of, numbered}
@@ -129,67 +128,7 @@ cut_full old new by first got b after left sent is_after is_left full room =
       room = subst (LeavesRoom old new by.asked) now room;
     }
 
-pub cut_more : (box : Outbox) (by : EndState) (first : ℕ) (got : List ℕ) (b after : ℕ) (left : List ℕ) → after ≡ first
-    → left ≡ got ++ b ∷ [] → (length got == 572) ≡ false → Cuts box box by first got (Byte b) after left
-cut_more box by first got b after left is_after is_left more =
-    let p = packet by (wire.at first) true (Data false got) in
-    let now : [] ≡ cut_now wire by first got (Byte b) = ap (λ c. cond c (p ∷ []) []) (sym more) in
-    record {
-      sent = subst (SendsTo box box by.asked) now (sends_nothing box);
-      rest = λ xs. ap (λ c. numbered wire by first
-          (cond c (open_piece got ∷ pieces (b ∷ []) xs) (pieces (got ++ b ∷ []) xs))) more
-          ∙ (λ i. numbered wire by (sym is_after i) (pieces (sym is_left i) xs))
-          ∙ ap (λ l. l ++ numbered wire by after (pieces left xs)) now;
-      room = subst (LeavesRoom box box by.asked) now (λ more h. h);
-    }
-
 -- ---- counting
-
-pub count_begins : (all rest : List Item) → rest ≡ all → Counted 0 0 0 all rest
-count_begins all rest same =
-    record {
-      got = [];
-      has = refl;
-      whole = let e : length (pieces [] rest) ≡ length (pieces [] all) = ap (λ l. length (pieces [] l)) same in
-          omega (arith, e);
-      carried = let e : bytes_of (pieces [] rest) ≡ bytes_of (pieces [] all) = ap (λ l. bytes_of (pieces [] l)) same in
-          omega (arith, e);
-    }
-
-pub count_end : (n filled bytes : ℕ) (all xs : List Item) → Counted n filled bytes all (End ∷ xs)
-    → Counted (n + 1) 0 bytes all xs
-count_end n filled bytes all xs c = record {
-  got = [];
-  has = refl;
-  whole = let w = c.whole in omega (arith, w);
-  carried = let k = c.carried in omega (arith, k);
-}
-
-pub count_full : (n filled bytes b : ℕ) (all xs : List Item) → filled ≡ 572 → Counted n filled bytes all (Byte b ∷ xs)
-    → Counted (n + 1) 1 (bytes + 1) all xs
-count_full n filled bytes b all xs full c =
-    let t : (length c.got == 572) ≡ true = ap (λ m. m == 572) (c.has ∙ full) in
-    let w = ap (λ t'. n + length (cond t' (open_piece c.got ∷ pieces (b ∷ []) xs) (pieces (c.got ++ b ∷ []) xs)))
-    (sym t) ∙ c.whole in
-    let k = ap (λ t'. 13 * n + bytes
-    + bytes_of (cond t' (open_piece c.got ∷ pieces (b ∷ []) xs) (pieces (c.got ++ b ∷ []) xs))) (sym t) ∙ c.carried in
-    record { got = b ∷ []; has = refl; whole = omega (arith, w); carried = omega (arith, k) }
-
-pub count_more : (n filled bytes b : ℕ) (all xs : List Item) → (filled == 572) ≡ false
-    → Counted n filled bytes all (Byte b ∷ xs) → Counted n (filled + 1) (bytes + 1) all xs
-count_more n filled bytes b all xs more c =
-    let t : (length c.got == 572) ≡ false = ap (λ m. m == 572) c.has ∙ more in
-    let w = ap (λ t'. n + length (cond t' (open_piece c.got ∷ pieces (b ∷ []) xs) (pieces (c.got ++ b ∷ []) xs)))
-    (sym t) ∙ c.whole in
-    let k = ap (λ t'. 13 * n + bytes
-    + bytes_of (cond t' (open_piece c.got ∷ pieces (b ∷ []) xs) (pieces (c.got ++ b ∷ []) xs))) (sym t) ∙ c.carried in
-    let e = length-append c.got (b ∷ []) in
-    record {
-      got = c.got ++ b ∷ [];
-      has = let h = c.has in omega (arith, e, h);
-      whole = w;
-      carried = omega (arith, e, k);
-    }
 
 -- with an item left, fewer pieces are counted than there are items
 pub count_few : (n filled bytes : ℕ) (all : List Item) (x : Item) (xs : List Item)

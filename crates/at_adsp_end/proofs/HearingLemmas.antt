@@ -5,16 +5,14 @@ use Rattle.std.proofs.Common.{drop, Option, Some, None, refl, sym, ap, subst, �
 use Rattle.std.specs.Prelude.{unwrap_or}
 use Rattle.std.proofs.lemmas.Bool.{true≢false}
 use Rattle.std.proofs.Math.Seq.{drop-append_seam, take-append-add, take-append_seam}
-use Rattle.std.proofs.lemmas.List.{drop-append-le, length-append, length-drop, length-take}
-use Rattle.at_ddp.specs.Outbox.{Outbox, Sends}
+use Rattle.std.proofs.lemmas.List.{drop-append-le, length-drop, length-take}
 use Rattle.at_ddp.specs.declared.address.Address.{Address}
-use Rattle.at_ddp.proofs.OutboxLemmas.{sends_nothing}
-use Rattle.at_adsp_frame.specs.Segments.{Content, Data, ResetAck}
+use Rattle.at_adsp_frame.specs.Segments.{Data, ResetAck}
 use Rattle.at_adsp_end.specs.Cuts.{Piece, items_of, pieces, numbered}
-use Rattle.at_adsp_end.specs.Ends.{Change, EndState, Sender, SendsTo, control, packet}
+use Rattle.at_adsp_end.specs.Ends.{Change, EndState, Sender, control, packet}
 use Rattle.at_adsp_end.specs.Hearing.{Forward, Jump, Older, Beyond, jumped, reset_came}
 use Rattle.at_adsp_end.specs.Loads.{IsLoad}
-use Rattle.at_adsp_end.specs.Outgoings.{IsWithin, credit_after, going_after, queued, stretch}
+use Rattle.at_adsp_end.specs.Outgoings.{IsWithin, credit_after, going_after, stretch}
 use Rattle.at_adsp_end.specs.Positions.{wire}
 use Rattle.at_adsp_end.specs.Sending.{acknowledged, going, hearing, sending, repeated}
 use Rattle.at_adsp_end.specs.declared.item.Item.{Item}
@@ -23,7 +21,6 @@ use Rattle.at_adsp_end.specs.declared.phase.Phase.{Phase}
 use Rattle.at_adsp_end.specs.declared.remote.Remote.{Remote}
 use Rattle.at_adsp_end.proofs.CutLemmas.{numbered_at}
 use Rattle.at_adsp_end.proofs.QueueLemmas.{first_of, going_first}
-use Rattle.at_adsp_end.proofs.SentLemmas.{sends_to_both, sends_to_later}
 
 -- ---- the waiting items that go
 
@@ -34,11 +31,6 @@ cond_few false xs ys h = h
 pub going_few : (s : Sender) → length (going s) ≤ length s.waiting
 going_few s = cond_few s.resetting (take s.credit s.waiting) s.waiting
     (let e = length-take s.credit s.waiting in omega (arith, e))
-
-pub going_after_few : (s : Sender) (window : ℕ) (acks : Option ℕ)
-    → length (going_after s window acks) ≤ length s.waiting
-going_after_few s window None = omega arith
-going_after_few s window (Some k) = going_few (acknowledged wire k window s)
 
 pub waiting_stretch : (s : Sender) (n : ℕ) → stretch s (length s.unacknowledged) n ≡ take n s.waiting
 waiting_stretch s n = ap (take n) (drop-append_seam s.unacknowledged s.waiting)
@@ -52,25 +44,12 @@ after_stretch s window None = refl
 after_stretch s window (Some k) = waiting_stretch s (length (going (acknowledged wire k window s)))
     ∙ going_first (acknowledged wire k window s)
 
--- the queue has so many
-pub within_queue : (s : Sender) (n : ℕ) → n ≤ length s.waiting → length s.unacknowledged + n ≤ length (queued s)
-within_queue s n few = let e = length-append s.unacknowledged s.waiting in omega (arith, e, few)
-
 -- ---- what was sent goes again
 
 pub sent_stretch : (s : Sender) → stretch s 0 (length s.unacknowledged) ≡ s.unacknowledged
 sent_stretch s = take-append_seam s.unacknowledged s.waiting
 
 -- ---- after room was made
-
-pub heard_more : (a b c d : Outbox) (to : Address) (xs ys : List Content) → Sends a b [] → SendsTo b c to xs
-    → SendsTo c d to ys → SendsTo a d to (xs ++ ys)
-heard_more a b c d to xs ys room note more =
-    sends_to_later a b d to (xs ++ ys) room (sends_to_both b c d to xs ys note more)
-
-pub heard_alone : (a b c : Outbox) (to : Address) (xs : List Content) → Sends a b [] → SendsTo b c to xs
-    → SendsTo a c to (xs ++ [])
-heard_alone a b c to xs room note = heard_more a b c c to xs [] room note (sends_nothing c)
 
 -- ---- the numbers and the room of what goes
 
@@ -80,10 +59,6 @@ numbers_same e first p xs ys at same =
     (λ i. numbered wire e (at i) (pieces [] (same i))) ∙ numbered_at e p (pieces [] ys)
 
 -- ---- what is unacknowledged once a segment is heard
-
-acked_first : Option ℕ → ℕ
-acked_first None = 0
-acked_first (Some k) = k
 
 dropped_then : (u w : List Item) (k g : ℕ) → k ≤ length u → take (length u - k + g) (drop k (u ++ w))
     ≡ drop k u ++ take g w

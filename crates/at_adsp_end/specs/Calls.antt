@@ -10,7 +10,7 @@ use Rattle.at_adsp_end.specs.Hearing.{Outcome, is_empty}
 use Rattle.at_adsp_end.specs.declared.item.Item.{Item}
 use Rattle.at_adsp_end.specs.declared.phase.Phase.{Phase}
 use Rattle.at_adsp_end.specs.declared.phase.Phase.TheVariants as phase
-use Rattle.at_adsp_end.specs.declared.step.Step.TheVariants.{Again, Idle, Closed}
+use Rattle.at_adsp_end.specs.declared.change.EndChange.TheVariants.{Again, Idle, Closed}
 use Rattle.at_adsp_end.specs.declared.tick.Tick.{Tick}
 use Rattle.at_adsp_end.specs.declared.tick.Tick.TheVariants.{Retransmit, Probe}
 

@@ -9,8 +9,8 @@ use Rattle.at_adsp_end.specs.Sending.{acks, hearing, sending, repeated, shut}
 pub use Rattle.at_adsp_end.specs.declared.forward.Forward.{Forward}
 pub use Rattle.at_adsp_end.specs.declared.forward.Forward.TheVariants.{Jump, Older, Beyond}
 use Rattle.at_adsp_end.specs.declared.item.Item.{Item}
-use Rattle.at_adsp_end.specs.declared.step.Step.{Step}
-use Rattle.at_adsp_end.specs.declared.step.Step.TheVariants.{Again, Heard, Dropped, Closed}
+use Rattle.at_adsp_end.specs.declared.change.EndChange.{EndChange}
+use Rattle.at_adsp_end.specs.declared.change.EndChange.TheVariants.{Again, Heard, Dropped, Closed}
 
 -- what a segment says, with every number that it carries compared to those of the end
 pub data Saying : Type 0 where
@@ -76,7 +76,7 @@ told N e s = record {
 
 -- what comes of a segment at an open end: the step, the end after it, and what it sends
 pub record Outcome : Type 0 where
-  pub step : Step
+  pub step : EndChange
   pub after : EndState
   pub sent : List Content
 

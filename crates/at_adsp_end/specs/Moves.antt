@@ -5,14 +5,15 @@ use Rattle.at_ddp.specs.Outbox.{Outbox}
 use Rattle.at_ddp.specs.declared.address.Address.{Address}
 use Rattle.at_adsp_end.specs.Ends.{Change, EndState, SendsTo}
 use Rattle.at_adsp_end.specs.Hearing.{Outcome}
-use Rattle.at_adsp_end.specs.declared.step.Step.{Step}
-use Rattle.at_adsp_end.specs.declared.step.Step.TheVariants.{Closed, Opened}
+use Rattle.at_adsp_end.specs.declared.change.EndChange.{EndChange}
+use Rattle.at_adsp_end.specs.declared.change.EndChange.TheVariants.{Closed, Opened}
 
 pub record IsChange (c : Change) (to : Address) (new : EndState) (before after : Outbox) : Type 0 where
   pub state : new ≡ c.after
   pub sent : SendsTo before after to c.sent
 
-pub record IsOutcome (o : Outcome) (to : Address) (step : Step) (new : EndState) (before after : Outbox) : Type 0 where
+pub record IsOutcome (o : Outcome) (to : Address) (step : EndChange) (new : EndState)
+    (before after : Outbox) : Type 0 where
   pub step_is : step ≡ o.step
   pub state : new ≡ o.after
   pub sent : SendsTo before after to o.sent

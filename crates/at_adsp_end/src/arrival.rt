@@ -10,21 +10,21 @@ use std::alloc::Allocator;
 
 // Bytes, and perhaps the end of a message behind them.
 #[derive(Clone, Copy)]
-pub(crate) struct Arrival<'a> {
+pub(crate) struct NewItems<'a> {
     pub(crate) bytes: &'a [u8],
     pub(crate) end: bool,
 }
 
 // The items that are not received yet, if the first was so far behind.
-pub(crate) fn new_items(end: bool, bytes: &[u8], behind: Option<u32>) -> Arrival<'_>
+pub(crate) fn new_items(end: bool, bytes: &[u8], behind: Option<u32>) -> NewItems<'_>
     ensures { items_in result.end result.bytes.now ≡ rest (items_in end bytes.now) behind }
 {
     match behind {
-        Some(count) if count as usize <= bytes.len() => Arrival {
+        Some(count) if count as usize <= bytes.len() => NewItems {
             bytes: &bytes[count as usize..],
             end,
         },
-        _ => Arrival {
+        _ => NewItems {
             bytes: &bytes[..0],
             end: false,
         },
@@ -34,7 +34,7 @@ pub(crate) fn new_items(end: bool, bytes: &[u8], behind: Option<u32>) -> Arrival
 // Keeps the items for which there is room, and returns how many they are.
 pub(crate) fn keep<A: Allocator>(
     unread: &mut HeapCircularBuffer<Item, A>,
-    arrival: &Arrival<'_>,
+    arrival: &NewItems<'_>,
 ) -> u16
     requires { unread.old.capacity < 65536 }
     ensures count { result ≡ length (take (unread.old.capacity - length unread.old.items)

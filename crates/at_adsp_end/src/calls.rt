@@ -1,18 +1,18 @@
 //! The calls and the timers of an end.
-ghost use Rattle.std.specs.Prelude.{◌≡◌, ◌≢◌, ◌∷◌, ◌++◌, [], length, take, drop, IfOk, OnErr, OnOk, IsOk};
+ghost use Rattle.std.specs.Prelude.{◌≡◌, ◌≢◌, ◌++◌, [], length, take, drop, IfOk, OnErr, OnOk, IsOk};
 ghost use Rattle.at_ddp.specs.Outbox.{Sends};
-ghost use Rattle.at_adsp_end.specs.Calls.{after_read, probes, read_opens, reading, ticked, writing};
+ghost use Rattle.at_adsp_end.specs.Calls.{probes, read_opens, reading, ticked, writing};
 ghost use Rattle.at_adsp_end.specs.Ends.{SendsTo, places};
 ghost use Rattle.at_adsp_end.specs.Loads.{HasRoomTo};
 ghost use Rattle.at_adsp_end.specs.Moves.{IsChange, IsOutcome, closed};
 ghost use Rattle.at_adsp_end.specs.Positions.{wire};
 ghost use Rattle.at_adsp_end.specs.Sending.{closing, resetting_now};
 
+use crate::change::EndChange;
 use crate::end::{End, PROBES};
 use crate::item::Item;
 use crate::load::Load;
 use crate::phase::Phase;
-use crate::step::Step;
 use crate::tick::Tick;
 use at_adsp_frame::Body;
 use at_ddp::Outbox;
@@ -20,7 +20,7 @@ use std::alloc::{AllocError, Allocator};
 
 impl<A: Allocator> End<A> {
     /// Closes this open end, and sends a close advice. The error is out of memory.
-    pub fn close(&mut self, out: &mut Outbox<A>) -> Result<Step, AllocError>
+    pub fn close(&mut self, out: &mut Outbox<A>) -> Result<EndChange, AllocError>
         ensures ok { IfOk result (λ step. IsOutcome (closed self.old (closing wire self.old)) self.old.asked step
             self.new out.old out.new) }
         ensures unchanged { OnErr result (self.new ≡ self.old) }
@@ -29,7 +29,7 @@ impl<A: Allocator> End<A> {
     {
         self.send_control(false, Body::Close, out)?;
         self.shut();
-        Ok(Step::Closed(self.id))
+        Ok(EndChange::Closed(self.id))
     }
 
     /// Drops all that this open end has queued, and sends a forward reset. The error is out of memory.
@@ -47,7 +47,7 @@ impl<A: Allocator> End<A> {
 
     /// Takes a tick of a timer of this end, which is not closed. On the fourth probe tick an open end closes; one that
     /// never opened is freed by its table. The error is out of memory.
-    pub fn tick(&mut self, tick: Tick, out: &mut Outbox<A>) -> Result<Step, AllocError>
+    pub fn tick(&mut self, tick: Tick, out: &mut Outbox<A>) -> Result<EndChange, AllocError>
         requires { self.old.phase ≢ Phase.Closed }
         ensures ok { IfOk result (λ step. IsOutcome (ticked wire self.old tick) self.old.asked step self.new out.old
             out.new) }
@@ -61,7 +61,7 @@ impl<A: Allocator> End<A> {
         }
     }
 
-    fn resend(&self, out: &mut Outbox<A>) -> Result<Step, AllocError>
+    fn resend(&self, out: &mut Outbox<A>) -> Result<EndChange, AllocError>
         requires { self.now.phase ≢ Phase.Closed }
         ensures ok { IfOk result (λ step. IsOutcome (ticked wire self.now Tick.Retransmit) self.now.asked step self.now
             out.old out.new) }
@@ -73,10 +73,10 @@ impl<A: Allocator> End<A> {
             Phase::Half => self.answer(out)?,
             _ => return self.resend_open(out),
         }
-        Ok(Step::Again)
+        Ok(EndChange::Again)
     }
 
-    fn resend_open(&self, out: &mut Outbox<A>) -> Result<Step, AllocError>
+    fn resend_open(&self, out: &mut Outbox<A>) -> Result<EndChange, AllocError>
         requires { self.now.phase ≡ Phase.Open }
         ensures ok { IfOk result (λ step. IsOutcome (ticked wire self.now Tick.Retransmit) self.now.asked step self.now
             out.old out.new) }
@@ -85,18 +85,18 @@ impl<A: Allocator> End<A> {
     {
         if self.outgoing.is_resetting() {
             self.send_control(false, Body::Reset, out)?;
-            return Ok(Step::Again);
+            return Ok(EndChange::Again);
         }
         let sent = self.outgoing.sent();
         if sent == 0 {
-            return Ok(Step::Idle);
+            return Ok(EndChange::Idle);
         }
         self.count_segments(0, sent).room(out)?;
         self.send_again(out);
-        Ok(Step::Again)
+        Ok(EndChange::Again)
     }
 
-    fn probe(&mut self, out: &mut Outbox<A>) -> Result<Step, AllocError>
+    fn probe(&mut self, out: &mut Outbox<A>) -> Result<EndChange, AllocError>
         ensures ok { IfOk result (λ step. IsOutcome (ticked wire self.old Tick.Probe) self.old.asked step self.new
             out.old out.new) }
         ensures unchanged { OnErr result (self.new ≡ self.old) }
@@ -106,11 +106,11 @@ impl<A: Allocator> End<A> {
         if self.is_last(Tick::Probe) {
             self.ticks = PROBES;
             self.shut();
-            return Ok(Step::Closed(self.id));
+            return Ok(EndChange::Closed(self.id));
         }
         self.send_probe(out)?;
         self.ticks += 1;
-        Ok(Step::Again)
+        Ok(EndChange::Again)
     }
 
     fn send_probe(&self, out: &mut Outbox<A>) -> Result<(), AllocError>

@@ -1,6 +1,5 @@
 //! The cutting of items into segments.
-ghost use Rattle.std.specs.Prelude.{◌≡◌, ℕ, ◌+◌, ◌*◌, ◌<◌, ◌≤◌, List, ◌∷◌, ◌++◌, [], length, take, drop, true, IfOk};
-ghost use Rattle.at_ddp.specs.Outbox.{Sends};
+ghost use Rattle.std.specs.Prelude.{◌≡◌, ℕ, ◌+◌, ◌*◌, ◌<◌, ◌≤◌, List, ◌∷◌, [], length, take, true};
 ghost use Rattle.at_ddp.specs.declared.address.Address.{Address};
 ghost use Rattle.at_adsp_frame.specs.Segments.{Data};
 ghost use Rattle.at_adsp_end.specs.Cuts.{cut_now, items_in, numbered, pieces};

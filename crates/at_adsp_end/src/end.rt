@@ -1,5 +1,5 @@
 //! One end of a stream: its state, how it is made, and what is asked of it. The other files have what changes it.
-ghost use Rattle.std.specs.Prelude.{◌≡◌, ◌&&◌, ◌||◌, not, IfOk, is_none};
+ghost use Rattle.std.specs.Prelude.{◌≡◌, ◌&&◌, ◌||◌, not, IfOk};
 ghost use Rattle.at_ddp.specs.Address.{same_address};
 ghost use Rattle.at_adsp_end.specs.Calls.{heeds, is_last};
 ghost use Rattle.at_adsp_end.specs.Ends.{FitsRooms, connector, half_end, has_opened, has_remote, is_closed};

@@ -1,12 +1,12 @@
 //! What segments do at an open end.
-ghost use Rattle.std.specs.Prelude.{◌≡◌, ◌≢◌, ◌&&◌, ◌==◌, ◌∷◌, ◌++◌, [], length, true, false, IfOk, OnErr, OnOk};
+ghost use Rattle.std.specs.Prelude.{◌≡◌, ◌==◌, [], length, false, IfOk, OnErr};
 ghost use Rattle.std.specs.Prelude.{IsOk};
 ghost use Rattle.at_ddp.specs.Outbox.{Sends};
 ghost use Rattle.at_adsp_frame.specs.Segments.{content};
 ghost use Rattle.at_adsp_end.specs.Cuts.{items_in};
-ghost use Rattle.at_adsp_end.specs.Ends.{SendsTo, confirming, free, next_unsent};
-ghost use Rattle.at_adsp_end.specs.Hearing.{advice_came, answer_came, close_came, forward, heard, heard_only, if_asked};
-ghost use Rattle.at_adsp_end.specs.Hearing.{items_came, reset_came, taken, taking, told};
+ghost use Rattle.at_adsp_end.specs.Ends.{SendsTo};
+ghost use Rattle.at_adsp_end.specs.Hearing.{advice_came, close_came, heard, heard_only, if_asked};
+ghost use Rattle.at_adsp_end.specs.Hearing.{items_came, taken, taking, told};
 ghost use Rattle.at_adsp_end.specs.Loads.{HasRoomTo};
 ghost use Rattle.at_adsp_end.specs.Moves.{IsOutcome};
 ghost use Rattle.at_adsp_end.specs.Outgoings.{IsWithin};
@@ -14,12 +14,12 @@ ghost use Rattle.at_adsp_end.specs.Positions.{wire};
 ghost use Rattle.at_adsp_end.specs.Sending.{acks, hearing, shut};
 
 use crate::advance::Advance;
-use crate::arrival::{Arrival, keep, new_items};
+use crate::arrival::{NewItems, keep, new_items};
+use crate::change::EndChange;
 use crate::end::End;
 use crate::load::Load;
 use crate::phase::Phase;
 use crate::positions::{ahead, number_after};
-use crate::step::Step;
 use at_adsp_frame::{Body, Segment};
 use at_ddp::Outbox;
 use std::alloc::{AllocError, Allocator};
@@ -30,7 +30,7 @@ impl<A: Allocator> End<A> {
         &mut self,
         segment: &Segment<'_>,
         out: &mut Outbox<A>,
-    ) -> Result<Step, AllocError>
+    ) -> Result<EndChange, AllocError>
         ensures ok { IfOk result (λ step. IsOutcome (heard wire self.old (told wire self.old (content segment.now)))
             self.old.asked step self.new out.old out.new) }
         ensures unchanged { OnErr result (self.new ≡ self.old) }
@@ -57,7 +57,7 @@ impl<A: Allocator> End<A> {
         &mut self,
         advance: Advance,
         out: &mut Outbox<A>,
-    ) -> Result<Step, AllocError>
+    ) -> Result<EndChange, AllocError>
         requires within { IsWithin self.old.sender advance.acks }
         ensures ok { IfOk result (λ step. IsOutcome
             (heard_only (hearing wire self.old advance.window advance.acks) []) self.old.asked step self.new out.old
@@ -69,7 +69,7 @@ impl<A: Allocator> End<A> {
     {
         self.make_room(advance, Load::none(), out)?;
         self.note_acknowledgement(advance, out);
-        Ok(Step::Heard {
+        Ok(EndChange::Heard {
             id: self.id,
             items: 0,
         })
@@ -79,9 +79,9 @@ impl<A: Allocator> End<A> {
         &mut self,
         advance: Advance,
         ack: bool,
-        arrival: &Arrival<'_>,
+        arrival: &NewItems<'_>,
         out: &mut Outbox<A>,
-    ) -> Result<Step, AllocError>
+    ) -> Result<EndChange, AllocError>
         requires within { IsWithin self.old.sender advance.acks }
         ensures ok { IfOk result (λ step. IsOutcome
             (items_came wire (hearing wire self.old advance.window advance.acks) ack
@@ -96,7 +96,7 @@ impl<A: Allocator> End<A> {
         self.note_acknowledgement(advance, out);
         let items = self.take(arrival);
         self.acknowledge_if(ack, out);
-        Ok(Step::Heard { id: self.id, items })
+        Ok(EndChange::Heard { id: self.id, items })
     }
 
     fn hear_probe(
@@ -104,7 +104,7 @@ impl<A: Allocator> End<A> {
         advance: Advance,
         ack: bool,
         out: &mut Outbox<A>,
-    ) -> Result<Step, AllocError>
+    ) -> Result<EndChange, AllocError>
         requires within { IsWithin self.old.sender advance.acks }
         ensures ok { IfOk result (λ step. let c = hearing wire self.old advance.window advance.acks in IsOutcome
             (heard_only c (if_asked wire ack c.after)) self.old.asked step self.new out.old out.new) }
@@ -117,13 +117,13 @@ impl<A: Allocator> End<A> {
         self.make_room(advance, Load::if_asked(ack), out)?;
         self.note_acknowledgement(advance, out);
         self.acknowledge_if(ack, out);
-        Ok(Step::Heard {
+        Ok(EndChange::Heard {
             id: self.id,
             items: 0,
         })
     }
 
-    fn hear_close(&mut self, advance: Advance, out: &mut Outbox<A>) -> Result<Step, AllocError>
+    fn hear_close(&mut self, advance: Advance, out: &mut Outbox<A>) -> Result<EndChange, AllocError>
         requires within { IsWithin self.old.sender advance.acks }
         ensures ok { IfOk result (λ step. IsOutcome
             (close_came wire (hearing wire self.old advance.window advance.acks)) self.old.asked step self.new out.old
@@ -136,10 +136,14 @@ impl<A: Allocator> End<A> {
         self.make_room(advance, Load::none(), out)?;
         self.note_acknowledgement(advance, out);
         self.shut();
-        Ok(Step::Closed(self.id))
+        Ok(EndChange::Closed(self.id))
     }
 
-    fn hear_advice(&mut self, advance: Advance, out: &mut Outbox<A>) -> Result<Step, AllocError>
+    fn hear_advice(
+        &mut self,
+        advance: Advance,
+        out: &mut Outbox<A>,
+    ) -> Result<EndChange, AllocError>
         requires within { IsWithin self.old.sender advance.acks }
         ensures ok { IfOk result (λ step. IsOutcome
             (advice_came wire (hearing wire self.old advance.window advance.acks)) self.old.asked step self.new out.old
@@ -156,12 +160,12 @@ impl<A: Allocator> End<A> {
         self.note_acknowledgement(advance, out);
         self.send_again(out);
         if self.outgoing.sent() == 0 {
-            Ok(Step::Heard {
+            Ok(EndChange::Heard {
                 id: self.id,
                 items: 0,
             })
         } else {
-            Ok(Step::Again)
+            Ok(EndChange::Again)
         }
     }
 
@@ -176,7 +180,7 @@ impl<A: Allocator> End<A> {
     }
 
     // Keeps the items for which there is room, and returns how many they are.
-    fn take(&mut self, arrival: &Arrival<'_>) -> u16
+    fn take(&mut self, arrival: &NewItems<'_>) -> u16
         ensures count { result ≡ length (taken self.old (items_in arrival.now.end arrival.now.bytes.now)) }
         ensures state { self.new ≡ taking wire self.old (items_in arrival.now.end arrival.now.bytes.now) }
     {

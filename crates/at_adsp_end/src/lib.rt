@@ -5,6 +5,7 @@
 mod advance;
 mod arrival;
 mod calls;
+mod change;
 mod cutting;
 mod end;
 mod fault;
@@ -20,9 +21,9 @@ mod positions;
 mod remote;
 mod resets;
 mod rooms;
-mod step;
 mod tick;
 
+pub use change::EndChange;
 pub use end::End;
 pub use fault::StreamFault;
 pub use forward::Forward;
@@ -30,5 +31,4 @@ pub use item::Item;
 pub use phase::Phase;
 pub use remote::Remote;
 pub use rooms::Rooms;
-pub use step::Step;
 pub use tick::Tick;

@@ -7,11 +7,11 @@ ghost use Rattle.at_adsp_end.specs.Moves.{IsOutcome, opened};
 ghost use Rattle.at_adsp_end.specs.Positions.{wire};
 ghost use Rattle.at_adsp_end.specs.Sending.{acks, hearing};
 
+use crate::change::EndChange;
 use crate::end::End;
 use crate::load::Load;
 use crate::phase::Phase;
 use crate::remote::Remote;
-use crate::step::Step;
 use at_adsp_frame::{OPENING_LEN, Segment};
 use at_ddp::Outbox;
 use std::alloc::{AllocError, Allocator};
@@ -23,7 +23,7 @@ impl<A: Allocator> End<A> {
         remote: Remote,
         segment: &Segment<'_>,
         out: &mut Outbox<A>,
-    ) -> Result<Step, AllocError>
+    ) -> Result<EndChange, AllocError>
         ensures ok { IfOk result (λ step. let e = record self.old { remote = Some remote; phase = Phase.Open } in
             IsOutcome (opened e (confirming wire e ∷ [])
             (hearing wire e segment.now.window (acks wire e.sender segment.now.next)))
@@ -41,7 +41,7 @@ impl<A: Allocator> End<A> {
         self.phase = Phase::Open;
         self.confirm(out).unwrap();
         self.note_acknowledgement(advance, out);
-        Ok(Step::Opened(self.id))
+        Ok(EndChange::Opened(self.id))
     }
 
     /// Opens this end, which was asked for the connection. The error is out of memory.
@@ -49,7 +49,7 @@ impl<A: Allocator> End<A> {
         &mut self,
         segment: &Segment<'_>,
         out: &mut Outbox<A>,
-    ) -> Result<Step, AllocError>
+    ) -> Result<EndChange, AllocError>
         ensures ok { IfOk result (λ step. let e = record self.old { phase = Phase.Open } in
             IsOutcome (opened e [] (hearing wire e segment.now.window (acks wire e.sender segment.now.next)))
             self.old.asked step self.new out.old out.new) }
@@ -63,6 +63,6 @@ impl<A: Allocator> End<A> {
         self.make_room(advance, Load::none(), out)?;
         self.phase = Phase::Open;
         self.note_acknowledgement(advance, out);
-        Ok(Step::Opened(self.id))
+        Ok(EndChange::Opened(self.id))
     }
 }

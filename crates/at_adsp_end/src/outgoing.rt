@@ -1,9 +1,8 @@
 //! What an end sends: one queue of items, of which the first were sent.
-ghost use Rattle.std.specs.Prelude.{◌≡◌, ◌+◌, ◌-◌, ◌≤◌, ◌<◌, ◌++◌, length, take, drop, max, min, get_or, IfOk, IfSome};
+ghost use Rattle.std.specs.Prelude.{◌≡◌, ◌+◌, ◌-◌, ◌≤◌, ◌<◌, ◌++◌, length, take, drop, max, min, IfOk, IfSome};
 ghost use Rattle.std.specs.Prelude.{slice_get, Some};
-ghost use Rattle.at_adsp_end.specs.Cuts.{pieces};
 ghost use Rattle.at_adsp_end.specs.Ends.{next_unsent, no_sender};
-ghost use Rattle.at_adsp_end.specs.Outgoings.{queued, stretch};
+ghost use Rattle.at_adsp_end.specs.Outgoings.{queued};
 ghost use Rattle.at_adsp_end.specs.Positions.{wire};
 ghost use Rattle.at_adsp_end.specs.Sending.{acknowledged, acks, dropped, going, sent_on};
 

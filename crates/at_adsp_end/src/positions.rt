@@ -1,5 +1,5 @@
 //! Sequence numbers. They begin again at 0 after 2^32 - 1.
-ghost use Rattle.std.specs.Prelude.{◌≡◌, ◌<◌, ◌+◌, ◌%◌, ◌^◌, ◌≤◌, IfSome};
+ghost use Rattle.std.specs.Prelude.{◌≡◌, ◌<◌, ◌+◌};
 ghost use Rattle.at_adsp_end.specs.Positions.{wire};
 
 /// Half of all sequence numbers.

@@ -1,5 +1,5 @@
 //! What forward resets and their answers do at an open end.
-ghost use Rattle.std.specs.Prelude.{◌≡◌, ◌≢◌, ◌&&◌, ◌==◌, ◌∷◌, ◌++◌, [], length, false, IfOk, OnErr, IsOk};
+ghost use Rattle.std.specs.Prelude.{◌≡◌, ◌≢◌, ◌&&◌, ◌==◌, [], false, IfOk, OnErr, IsOk};
 ghost use Rattle.at_ddp.specs.Outbox.{Sends};
 ghost use Rattle.at_adsp_end.specs.Ends.{free, next_unsent};
 ghost use Rattle.at_adsp_end.specs.Hearing.{answer_came, forward, reset_came};
@@ -10,11 +10,11 @@ ghost use Rattle.at_adsp_end.specs.Positions.{wire};
 ghost use Rattle.at_adsp_end.specs.Sending.{hearing};
 
 use crate::advance::Advance;
+use crate::change::EndChange;
 use crate::end::End;
 use crate::forward::Forward;
 use crate::load::Load;
 use crate::positions::{ahead, number_after};
-use crate::step::Step;
 use at_adsp_frame::Body;
 use at_ddp::Outbox;
 use std::alloc::{AllocError, Allocator};
@@ -25,7 +25,7 @@ impl<A: Allocator> End<A> {
         advance: Advance,
         forward: Forward,
         out: &mut Outbox<A>,
-    ) -> Result<Step, AllocError>
+    ) -> Result<EndChange, AllocError>
         requires within { IsWithin self.old.sender advance.acks }
         ensures ok { IfOk result (λ step. IsOutcome
             (reset_came wire (hearing wire self.old advance.window advance.acks) forward) self.old.asked step self.new
@@ -46,7 +46,7 @@ impl<A: Allocator> End<A> {
         advance: Advance,
         forward: Forward,
         out: &mut Outbox<A>,
-    ) -> Result<Step, AllocError>
+    ) -> Result<EndChange, AllocError>
         requires within { IsWithin self.old.sender advance.acks }
         requires answered { forward ≢ Forward.Beyond }
         ensures ok { IfOk result (λ step. IsOutcome
@@ -69,7 +69,7 @@ impl<A: Allocator> End<A> {
         advance: Advance,
         next: u32,
         out: &mut Outbox<A>,
-    ) -> Result<Step, AllocError>
+    ) -> Result<EndChange, AllocError>
         requires within { IsWithin self.old.sender advance.acks }
         ensures ok { IfOk result (λ step. IsOutcome
             (answer_came wire (hearing wire self.old advance.window advance.acks)
@@ -90,7 +90,7 @@ impl<A: Allocator> End<A> {
         self.note_acknowledgement(advance, out);
         self.unreset();
         self.send_on(out);
-        Ok(Step::Heard {
+        Ok(EndChange::Heard {
             id: self.id,
             items: 0,
         })
@@ -123,7 +123,7 @@ impl<A: Allocator> End<A> {
     }
 
     // Takes a forward reset, if it leads ahead.
-    fn jump(&mut self, forward: Forward) -> Step
+    fn jump(&mut self, forward: Forward) -> EndChange
         requires { forward ≢ Forward.Beyond }
         ensures step { result ≡ (reset_came wire (record { after = self.old; sent = [] }) forward).step }
         ensures state { self.new ≡ (reset_came wire (record { after = self.old; sent = [] }) forward).after }
@@ -131,9 +131,9 @@ impl<A: Allocator> End<A> {
         if let Forward::Jump(distance) = forward {
             self.received = number_after(self.received, distance);
             self.unread.clear();
-            Step::Dropped(self.id)
+            EndChange::Dropped(self.id)
         } else {
-            Step::Heard {
+            EndChange::Heard {
                 id: self.id,
                 items: 0,
             }

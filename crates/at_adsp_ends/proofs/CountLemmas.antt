@@ -20,7 +20,7 @@ use Rattle.at_adsp_end.specs.declared.fault.StreamFault.TheVariants.{NoRoom, Not
 use Rattle.at_adsp_end.specs.declared.item.Item.{Item}
 use Rattle.at_adsp_end.specs.declared.phase.Phase.TheVariants as phase
 use Rattle.at_adsp_end.specs.declared.remote.Remote.{Remote}
-use Rattle.at_adsp_end.specs.declared.step.Step.TheVariants.{Again, Closed, Denied, Freed}
+use Rattle.at_adsp_end.specs.declared.change.EndChange.TheVariants.{Again, Closed, Denied, Freed}
 use Rattle.at_adsp_end.specs.declared.tick.Tick.{Tick}
 use Rattle.at_adsp_ends.specs.Calls.{closed_at, connected, finds_no_room, frees, read_at, reset_at, ticked_at, wrote}
 use Rattle.at_adsp_ends.specs.Calls.{wrote_some}

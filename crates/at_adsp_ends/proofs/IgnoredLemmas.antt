@@ -14,8 +14,8 @@ use Rattle.at_adsp_end.specs.Sending.{hearing}
 use Rattle.at_adsp_end.specs.declared.forward.Forward.TheVariants.{Jump, Older, Beyond}
 use Rattle.at_adsp_end.specs.declared.phase.Phase.TheVariants as phase
 use Rattle.at_adsp_end.specs.declared.remote.Remote.{Remote}
-use Rattle.at_adsp_end.specs.declared.step.Step.{Step}
-use Rattle.at_adsp_end.specs.declared.step.Step.TheVariants.{Again, Denied, Heard, Ignored}
+use Rattle.at_adsp_end.specs.declared.change.EndChange.{EndChange}
+use Rattle.at_adsp_end.specs.declared.change.EndChange.TheVariants.{Again, Denied, Heard, Ignored}
 use Rattle.at_adsp_ends.specs.Openings.{ack_came, answer_came, answers_again, confirms_again, connected_to, denial_came}
 use Rattle.at_adsp_ends.specs.Openings.{ignored, is_answered, opened, request_came, room_for, sender_of}
 use Rattle.at_adsp_ends.specs.Receiving.{any_request_came, opening_came, part_came, received, segment_came, settled}
@@ -43,10 +43,10 @@ heard_heeds e t h = saying_heeds (hearing wire e t.window t.acks) t.ack t.saying
 
 -- ---- what is told as ignored does nothing
 
-abbrev Idle : EndTable → Done Step → Type 0
+abbrev Idle : EndTable → Done EndChange → Type 0
 Idle t d = d.answer ≡ Ignored → d ≡ ignored t
 
-either : (t : EndTable) (b : Bool) (x y : Done Step) → Idle t x → Idle t y → Idle t (cond b x y)
+either : (t : EndTable) (b : Bool) (x y : Done EndChange) → Idle t x → Idle t y → Idle t (cond b x y)
 either t true x y ix iy = ix
 either t false x y ix iy = iy
 

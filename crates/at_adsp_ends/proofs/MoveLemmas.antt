@@ -22,8 +22,8 @@ use Rattle.at_adsp_end.specs.declared.fault.StreamFault.TheVariants.{NoMemory}
 use Rattle.at_adsp_end.specs.declared.forward.Forward.TheVariants.{Jump, Older, Beyond}
 use Rattle.at_adsp_end.specs.declared.remote.Remote.{Remote}
 use Rattle.at_adsp_end.specs.declared.rooms.Rooms.{Rooms}
-use Rattle.at_adsp_end.specs.declared.step.Step.{Step}
-use Rattle.at_adsp_end.specs.declared.step.Step.TheVariants.{Freed, Ignored}
+use Rattle.at_adsp_end.specs.declared.change.EndChange.{EndChange}
+use Rattle.at_adsp_end.specs.declared.change.EndChange.TheVariants.{Freed, Ignored}
 use Rattle.at_adsp_end.specs.declared.tick.Tick.{Tick}
 use Rattle.at_adsp_end.specs.declared.tick.Tick.TheVariants.{Retransmit, Probe}
 use Rattle.at_table.specs.Rows.{Rows, with_item}
@@ -122,7 +122,7 @@ module _ {p : EndState → Bool} {t : EndTable} {i : ℕ} {e : EndState} (q : At
   nothing : new ≡ e → Sends a b [] → IsNothing t (put t i new) a b
   nothing is none = record { state = table_same is; sent = none }
 
-  pub taken_outcome : {E : Type 0} (r : Result Step E) (o : Outcome) → o.after.id ≡ e.id → o.after.asked ≡ e.asked
+  pub taken_outcome : {E : Type 0} (r : Result EndChange E) (o : Outcome) → o.after.id ≡ e.id → o.after.asked ≡ e.asked
       → IfOk r (λ step. IsOutcome o e.asked step new a b) → OnErr r (new ≡ e) → OnErr r (Sends a b [])
       → IsTaken (settled t o) r t (put t i new) a b
   taken_outcome (Ok step) o id asked is same none =
@@ -130,19 +130,20 @@ module _ {p : EndState → Bool} {t : EndTable} {i : ℕ} {e : EndState} (q : At
   taken_outcome (Err x) o id asked is same none = nothing same none
 
   -- a segment found memory out
-  pub taken_not : {E : Type 0} (r : Result Step E) (d : Done Step) → IsErr r → new ≡ e → Sends a b []
+  pub taken_not : {E : Type 0} (r : Result EndChange E) (d : Done EndChange) → IsErr r → new ≡ e → Sends a b []
       → IsTaken d r t (put t i new) a b
   taken_not (Ok step) d failed same none = absurd (cc)
   taken_not (Err x) d failed same none = nothing same none
 
-  pub called_outcome : {E : Type 0} (r : Result Step E) (z : Result Step StreamFault) (o : Outcome) → Keeps e o.after
+  pub called_outcome : {E : Type 0} (r : Result EndChange E) (z : Result EndChange StreamFault) (o : Outcome)
+      → Keeps e o.after
       → IfOk r (λ x. z ≡ Ok x) → OnErr r (z ≡ Err NoMemory) → IfOk r (λ step. IsOutcome o e.asked step new a b)
       → OnErr r (new ≡ e) → OnErr r (Sends a b []) → IsCalled (Ok (settled t o)) z t (put t i new) a b
   called_outcome (Ok step) z o k good bad is same none =
-      subst (λ (x : Result Step StreamFault). IsCalled (Ok (settled t o)) x t (put t i new) a b) (sym good)
+      subst (λ (x : Result EndChange StreamFault). IsCalled (Ok (settled t o)) x t (put t i new) a b) (sym good)
       (move_done o.after o.step step o.sent k.id k.asked is.step_is is.state is.sent)
   called_outcome (Err x) z o k good bad is same none =
-      subst (λ (x : Result Step StreamFault). IsCalled (Ok (settled t o)) x t (put t i new) a b) (sym bad)
+      subst (λ (x : Result EndChange StreamFault). IsCalled (Ok (settled t o)) x t (put t i new) a b) (sym bad)
       (refl, nothing same none)
 
   pub called_change : {X Y E : Type 0} (f : X → Y) (r : Result X E) (z : Result Y StreamFault) (c : Change) (y : Y)
@@ -170,7 +171,7 @@ module _ {listening : Bool} {next room i : ℕ} {rooms : Rooms} {rows : Rows ℕ
   )
 
   module _ (a b : Outbox) where
-    pub outcome_lawful : {E : Type 0} (r : Result Step E) (o : Outcome) → Keeps e o.after
+    pub outcome_lawful : {E : Type 0} (r : Result EndChange E) (o : Outcome) → Keeps e o.after
         → IfOk r (λ step. IsOutcome o e.asked step new a b) → OnErr r (new ≡ e)
         → AreEnds (table listening next rooms (set rows.items i new)) × AreFiled (with_item rows i new) id_under room
     outcome_lawful (Ok step) o k is same = kept_lawful (left_keeps k is.state)

@@ -10,8 +10,8 @@ use Rattle.at_adsp_end.specs.Calls.{heeds, ticked, is_last, reading, writing}
 use Rattle.at_adsp_end.specs.declared.fault.StreamFault.{StreamFault}
 use Rattle.at_adsp_end.specs.declared.fault.StreamFault.TheVariants.{EndsFull, NotOpen, NoSuchEnd, NoRoom}
 use Rattle.at_adsp_end.specs.declared.item.Item.{Item}
-use Rattle.at_adsp_end.specs.declared.step.Step.{Step}
-use Rattle.at_adsp_end.specs.declared.step.Step.TheVariants.{Closed, Freed}
+use Rattle.at_adsp_end.specs.declared.change.EndChange.{EndChange}
+use Rattle.at_adsp_end.specs.declared.change.EndChange.TheVariants.{Closed, Freed}
 use Rattle.at_adsp_end.specs.declared.tick.Tick.{Tick}
 use Rattle.at_adsp_ends.specs.Tables.{EndTable, Done, made, moved, freed}
 use Rattle.at_adsp_ends.specs.Receiving.{settled}
@@ -28,7 +28,7 @@ connected t to (Some id) =
     Ok (made t id (connector t.rooms id to) (asking (connector t.rooms id to) ∷ []))
 
 -- an open end is closed, and any other is freed
-abbrev pub closed_at : Numbers → EndTable → Option EndState → Result (Done Step) StreamFault
+abbrev pub closed_at : Numbers → EndTable → Option EndState → Result (Done EndChange) StreamFault
 closed_at N t None = Err NoSuchEnd
 closed_at N t (Some e) =
     if is_open e.phase
@@ -39,7 +39,7 @@ closed_at N t (Some e) =
 abbrev pub frees : EndState → Tick → Bool
 frees e tick = is_last e tick && not (is_open e.phase)
 
-abbrev pub ticked_at : Numbers → EndTable → Tick → Option EndState → Result (Done Step) StreamFault
+abbrev pub ticked_at : Numbers → EndTable → Tick → Option EndState → Result (Done EndChange) StreamFault
 ticked_at N t tick None = Err NoSuchEnd
 ticked_at N t tick (Some e) =
     if is_closed e.phase

@@ -5,7 +5,7 @@ use Rattle.at_adsp_end.specs.Ends.{spelled_all}
 use Rattle.at_adsp_end.specs.declared.fault.StreamFault.{StreamFault}
 use Rattle.at_adsp_end.specs.declared.fault.StreamFault.TheVariants.{NoMemory}
 use Rattle.at_adsp_end.specs.declared.item.Item.{Item}
-use Rattle.at_adsp_end.specs.declared.step.Step.{Step}
+use Rattle.at_adsp_end.specs.declared.change.EndChange.{EndChange}
 use Rattle.at_adsp_ends.specs.Tables.{Done, EndTable}
 
 pub record IsDone {X : Type 0} (d : Done X) (answer : X) (new : EndTable) (before after : Outbox) : Type 0 where
@@ -19,7 +19,7 @@ pub record IsNothing (old new : EndTable) (before after : Outbox) : Type 0 where
   pub sent : Sends before after []
 
 -- a segment did this, or memory was out
-abbrev pub IsTaken : {E : Type 0} → Done Step → Result Step E → EndTable → EndTable → Outbox → Outbox → Type 0
+abbrev pub IsTaken : {E : Type 0} → Done EndChange → Result EndChange E → EndTable → EndTable → Outbox → Outbox → Type 0
 IsTaken d (Ok step) old new before after = IsDone d step new before after
 IsTaken d (Err e) old new before after = IsNothing old new before after
 

@@ -10,11 +10,11 @@ use Rattle.at_adsp_end.specs.Ends.{confirming, denying}
 use Rattle.at_adsp_end.specs.Sending.{acks, hearing}
 use Rattle.at_adsp_end.specs.declared.phase.Phase.TheVariants as phase
 use Rattle.at_adsp_end.specs.declared.remote.Remote.{Remote}
-use Rattle.at_adsp_end.specs.declared.step.Step.{Step}
-use Rattle.at_adsp_end.specs.declared.step.Step.TheVariants.{Ignored, Made, Opened, Turned, Denied, Again}
+use Rattle.at_adsp_end.specs.declared.change.EndChange.{EndChange}
+use Rattle.at_adsp_end.specs.declared.change.EndChange.TheVariants.{Ignored, Made, Opened, Turned, Denied, Again}
 use Rattle.at_adsp_ends.specs.Tables.{EndTable, Done, next_id, made, moved, stayed, freed}
 
-abbrev pub ignored : EndTable → Done Step
+abbrev pub ignored : EndTable → Done EndChange
 ignored t = record { answer = Ignored; after = t; changed = None; sent = [] }
 
 -- the end of a segment's sender
@@ -24,7 +24,7 @@ sender_of from s = record { address = from; id = s.source }
 -- ---- requests
 
 -- with an identifier for it, an end is made that answers the request; else the request is denied
-abbrev pub room_for : Numbers → EndTable → Remote → Option ℕ → Done Step
+abbrev pub room_for : Numbers → EndTable → Remote → Option ℕ → Done EndChange
 room_for N t r None = record { answer = Turned; after = t; changed = None; sent = (r.address, denying r.id) ∷ [] }
 room_for N t r (Some id) = made t (Made id) (half_end t.rooms id r) (answering N (half_end t.rooms id r) ∷ [])
 
@@ -33,7 +33,7 @@ abbrev pub answers_again : EndState → Bool
 answers_again e = e.listener && (is_half e.phase || is_open e.phase)
 
 -- a request of this end, and the end here that has it as its remote
-abbrev pub request_came : Numbers → EndTable → Remote → Option EndState → Done Step
+abbrev pub request_came : Numbers → EndTable → Remote → Option EndState → Done EndChange
 request_came N t r None = room_for N t r (if t.listening then next_id t else None)
 request_came N t r (Some e) = if answers_again e then stayed t Again e (answering N e ∷ []) else ignored t
 
@@ -44,7 +44,7 @@ abbrev pub heard_opening : Numbers → EndState → Content → Change
 heard_opening N e s = hearing N e s.window (acks N e.sender s.next)
 
 -- an end opens, and sends these packets first
-abbrev pub opened : Numbers → EndTable → EndState → Content → List Content → Done Step
+abbrev pub opened : Numbers → EndTable → EndState → Content → List Content → Done EndChange
 opened N t e s first =
     moved t (Opened e.id) (heard_opening N e s).after (first ++ (heard_opening N e s).sent)
 
@@ -61,7 +61,7 @@ abbrev pub confirms_again : EndState → Remote → Bool
 confirms_again e r = is_open e.phase && not e.listener && has_remote r e
 
 -- an answer of this end, the end here that has it as its remote, and the end that the answer names
-abbrev pub answer_came : Numbers → EndTable → Remote → Content → Option EndState → Option EndState → Done Step
+abbrev pub answer_came : Numbers → EndTable → Remote → Content → Option EndState → Option EndState → Done EndChange
 answer_came N t r s there None = ignored t
 answer_came N t r s there (Some e) =
     if is_answered e r there
@@ -71,13 +71,13 @@ answer_came N t r s there (Some e) =
 -- ---- acknowledgements and denials
 
 -- an acknowledgement opens the end that it names, if that waits for it
-abbrev pub ack_came : Numbers → EndTable → Remote → Content → Option EndState → Done Step
+abbrev pub ack_came : Numbers → EndTable → Remote → Content → Option EndState → Done EndChange
 ack_came N t r s None = ignored t
 ack_came N t r s (Some e) =
     if is_half e.phase && has_remote r e then opened N t (record e { phase = phase.Open }) s [] else ignored t
 
 -- a denial frees the end that it names, if that asked there
-abbrev pub denial_came : EndTable → Address → Option EndState → Done Step
+abbrev pub denial_came : EndTable → Address → Option EndState → Done EndChange
 denial_came t from None = ignored t
 denial_came t from (Some e) =
     if is_opening e.phase && same_address e.asked from then freed t (Denied e.id) e else ignored t

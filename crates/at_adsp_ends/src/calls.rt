@@ -11,7 +11,7 @@ ghost use Rattle.at_adsp_ends.specs.Tables.{by_id, next_id};
 use crate::ends::{Ends, MAX_ENDS};
 use crate::identifiers::following;
 use crate::standing::index_of;
-use at_adsp_end::{End, Item, Step, StreamFault, Tick};
+use at_adsp_end::{End, EndChange, Item, StreamFault, Tick};
 use at_ddp::{Address, Outbox};
 use std::alloc::{AllocError, Allocator};
 
@@ -33,9 +33,9 @@ impl<A: Allocator + Copy> Ends<A> {
     }
 
     /// Closes an open end, and frees any other, which needs no memory.
-    pub fn close(&mut self, id: u16, out: &mut Outbox<A>) -> Result<Step, StreamFault>
+    pub fn close(&mut self, id: u16, out: &mut Outbox<A>) -> Result<EndChange, StreamFault>
         ensures call { IsCalled (closed_at wire self.old (by_id self.old id)) result self.old self.new out.old out.new }
-        ensures frees { IfOk (closed_at wire self.old (by_id self.old id)) (λ d. d.answer ≡ Step.Freed id
+        ensures frees { IfOk (closed_at wire self.old (by_id self.old id)) (λ d. d.answer ≡ EndChange.Freed id
             → IsOk result) }
         ensures memory { IfOk (closed_at wire self.old (by_id self.old id)) (λ d.
             HasRoomToSend out.old (spelled_all d.sent) → IsOk result) }
@@ -49,15 +49,20 @@ impl<A: Allocator + Copy> Ends<A> {
             return or_memory(end.close(out));
         }
         self.remove_at(index);
-        Ok(Step::Freed(id))
+        Ok(EndChange::Freed(id))
     }
 
     /// Takes a tick of a timer of an end that is not closed. The fourth probe tick without a word from the other end
     /// closes an open end, and frees one that never opened, which needs no memory.
-    pub fn tick(&mut self, id: u16, tick: Tick, out: &mut Outbox<A>) -> Result<Step, StreamFault>
+    pub fn tick(
+        &mut self,
+        id: u16,
+        tick: Tick,
+        out: &mut Outbox<A>,
+    ) -> Result<EndChange, StreamFault>
         ensures call { IsCalled (ticked_at wire self.old tick (by_id self.old id)) result self.old self.new out.old
             out.new }
-        ensures frees { IfOk (ticked_at wire self.old tick (by_id self.old id)) (λ d. d.answer ≡ Step.Freed id
+        ensures frees { IfOk (ticked_at wire self.old tick (by_id self.old id)) (λ d. d.answer ≡ EndChange.Freed id
             → IsOk result) }
         ensures memory { IfOk (ticked_at wire self.old tick (by_id self.old id)) (λ d.
             HasRoomToSend out.old (spelled_all d.sent) → IsOk result) }
@@ -71,7 +76,7 @@ impl<A: Allocator + Copy> Ends<A> {
         }
         if frees(end, tick) {
             self.remove_at(index);
-            return Ok(Step::Freed(id));
+            return Ok(EndChange::Freed(id));
         }
         let end = self.ends.at_mut(index);
         or_memory(end.tick(tick, out))

@@ -1,13 +1,11 @@
 //! The table of a node's ends: which of them an identifier or a remote names, and what is asked of the table.
-ghost use Rattle.std.specs.Prelude.{◌≡◌, ◌≢◌, ◌≤◌, ◌<◌, ◌↔◌, find, length, is_some};
-ghost use Rattle.std.specs.Prelude.{IfOk, IfErr, IfSome, OnErr, IsOk, None, Err, remove, slice_get};
+ghost use Rattle.std.specs.Prelude.{◌≡◌, ◌≤◌, ◌<◌, ◌↔◌, find, length, is_some};
+ghost use Rattle.std.specs.Prelude.{IfSome, None, Err, remove, slice_get};
 ghost use Rattle.std.specs.List.{AllByRecursion, position_from, list_any};
 ghost use Rattle.std.specs.Option.{option_copied};
-ghost use Rattle.at_ddp.specs.Outbox.{Sends};
-ghost use Rattle.at_adsp_end.specs.Ends.{EndState, FitsRooms, has_remote};
-ghost use Rattle.at_adsp_end.specs.Positions.{wire};
-ghost use Rattle.at_adsp_ends.specs.Calls.{connected, heeding, listened, unread_at};
-ghost use Rattle.at_adsp_ends.specs.Tables.{AreEnds, AreRooms, by_id, by_remote, has_id, has_remote_at};
+ghost use Rattle.at_adsp_end.specs.Ends.{FitsRooms, has_remote};
+ghost use Rattle.at_adsp_ends.specs.Calls.{heeding, listened, unread_at};
+ghost use Rattle.at_adsp_ends.specs.Tables.{AreEnds, AreRooms, by_id, by_remote, has_remote_at};
 ghost use Rattle.at_adsp_ends.specs.Tables.{next_id, no_ends};
 
 use crate::identifiers::{FIRST, free_id};

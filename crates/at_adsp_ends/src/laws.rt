@@ -6,7 +6,7 @@ ghost use Rattle.at_adsp_frame.specs.Segments.{Content};
 ghost use Rattle.at_adsp_end.specs.Ends.{FitsRooms};
 ghost use Rattle.at_adsp_end.specs.Positions.{wire};
 ghost use Rattle.at_adsp_end.specs.declared.item.Item.{Item as Entry};
-ghost use Rattle.at_adsp_end.specs.declared.step.Step.TheVariants.{Ignored};
+ghost use Rattle.at_adsp_end.specs.declared.change.EndChange.TheVariants.{Ignored};
 ghost use Rattle.at_adsp_end.specs.declared.tick.Tick.{Tick as Timer};
 ghost use Rattle.at_adsp_ends.specs.Calls.{closed_at, connected, read_at, reset_at, ticked_at, wrote};
 ghost use Rattle.at_adsp_ends.specs.Openings.{ignored};

@@ -10,5 +10,5 @@ mod receiving;
 mod remotes;
 mod standing;
 
-pub use at_adsp_end::{Item, Phase, Remote, Rooms, Step, StreamFault, Tick};
+pub use at_adsp_end::{EndChange, Item, Phase, Remote, Rooms, StreamFault, Tick};
 pub use ends::{Ends, MAX_ENDS};

@@ -14,7 +14,7 @@ use crate::ends::{Ends, MAX_ENDS};
 use crate::identifiers::following;
 use crate::remotes::note;
 use crate::standing::index_of;
-use at_adsp_end::{End, Remote, Step};
+use at_adsp_end::{End, EndChange, Remote};
 use at_adsp_frame::{Body, OpenKind, Segment, send};
 use at_ddp::{Address, Outbox};
 use std::alloc::{AllocError, Allocator};
@@ -25,7 +25,7 @@ impl<A: Allocator + Copy> Ends<A> {
         &mut self,
         remote: Remote,
         out: &mut Outbox<A>,
-    ) -> Result<Step, AllocError>
+    ) -> Result<EndChange, AllocError>
         ensures taken { IsTaken (any_request_came wire self.old remote (remote.id == 0)) result self.old self.new
             out.old out.new }
         ensures memory { made_id (any_request_came wire self.old remote (remote.id == 0)).answer ≡ None
@@ -33,15 +33,15 @@ impl<A: Allocator + Copy> Ends<A> {
             → IsOk result }
     {
         if remote.id == 0 {
-            return Ok(Step::Ignored);
+            return Ok(EndChange::Ignored);
         }
         match self.end_of(remote) {
             None => self.answer_new(remote, out),
             Some(end) if end.answers_again() => {
                 end.answer(out)?;
-                Ok(Step::Again)
+                Ok(EndChange::Again)
             }
-            Some(_) => Ok(Step::Ignored),
+            Some(_) => Ok(EndChange::Ignored),
         }
     }
 
@@ -57,7 +57,7 @@ impl<A: Allocator + Copy> Ends<A> {
     }
 
     // A request of an end that no end here has as its remote.
-    fn answer_new(&mut self, remote: Remote, out: &mut Outbox<A>) -> Result<Step, AllocError>
+    fn answer_new(&mut self, remote: Remote, out: &mut Outbox<A>) -> Result<EndChange, AllocError>
         requires { by_remote self.old remote ≡ None }
         ensures taken { IsTaken (room_for wire self.old remote (if self.old.listening then next_id self.old else None))
             result self.old self.new out.old out.new }
@@ -66,7 +66,7 @@ impl<A: Allocator + Copy> Ends<A> {
     {
         let Some(id) = self.listening_id() else {
             deny(remote, out)?;
-            return Ok(Step::Turned);
+            return Ok(EndChange::Turned);
         };
         let end = End::half(self.alloc, self.rooms, id, remote)?;
         self.ends.reserve()?;
@@ -75,7 +75,7 @@ impl<A: Allocator + Copy> Ends<A> {
         self.ends.push(id, end);
         note(&mut self.remotes, remote, id);
         self.next = following(id);
-        Ok(Step::Made(id))
+        Ok(EndChange::Made(id))
     }
 
     // The identifier that an end gets whose request is answered.
@@ -92,7 +92,7 @@ impl<A: Allocator + Copy> Ends<A> {
         dest: u16,
         segment: &Segment<'_>,
         out: &mut Outbox<A>,
-    ) -> Result<Step, AllocError>
+    ) -> Result<EndChange, AllocError>
         ensures taken { IsTaken (answer_came wire self.old remote (content segment.now) (by_remote self.old remote)
             (by_id self.old dest)) result self.old self.new out.old out.new }
         ensures memory { HasRoomToSend out.old (spelled_all (answer_came wire self.old remote (content segment.now)
@@ -100,7 +100,7 @@ impl<A: Allocator + Copy> Ends<A> {
     {
         let is_taken = self.has_remote(remote.address, remote.id);
         let Some(index) = index_of(&self.ends, dest) else {
-            return Ok(Step::Ignored);
+            return Ok(EndChange::Ignored);
         };
         let end = self.ends.at(index);
         if is_answered(end, remote.address, is_taken) {
@@ -111,10 +111,10 @@ impl<A: Allocator + Copy> Ends<A> {
         }
         let end = self.ends.at(index);
         if !end.confirms_again(remote) {
-            return Ok(Step::Ignored);
+            return Ok(EndChange::Ignored);
         }
         end.confirm(out)?;
-        Ok(Step::Again)
+        Ok(EndChange::Again)
     }
 
     // An acknowledgement of the answer of the end with this identifier.
@@ -124,7 +124,7 @@ impl<A: Allocator + Copy> Ends<A> {
         dest: u16,
         segment: &Segment<'_>,
         out: &mut Outbox<A>,
-    ) -> Result<Step, AllocError>
+    ) -> Result<EndChange, AllocError>
         ensures taken { IsTaken (ack_came wire self.old remote (content segment.now) (by_id self.old dest)) result
             self.old self.new out.old out.new }
         ensures memory { HasRoomToSend out.old
@@ -132,30 +132,30 @@ impl<A: Allocator + Copy> Ends<A> {
             → IsOk result }
     {
         let Some(index) = index_of(&self.ends, dest) else {
-            return Ok(Step::Ignored);
+            return Ok(EndChange::Ignored);
         };
         let end = self.ends.at(index);
         if !end.waits_for(remote) {
-            return Ok(Step::Ignored);
+            return Ok(EndChange::Ignored);
         }
         let end = self.ends.at_mut(index);
         end.open_half(segment, out)
     }
 
     // A denial of the request of the end with this identifier.
-    pub(crate) fn hear_denial(&mut self, from: Address, dest: u16) -> Step
+    pub(crate) fn hear_denial(&mut self, from: Address, dest: u16) -> EndChange
         ensures answer { result ≡ (denial_came self.old from (by_id self.old dest)).answer }
         ensures state { self.new ≡ (denial_came self.old from (by_id self.old dest)).after }
     {
         let Some(index) = index_of(&self.ends, dest) else {
-            return Step::Ignored;
+            return EndChange::Ignored;
         };
         let end = self.ends.at(index);
         if !end.asks(from) {
-            return Step::Ignored;
+            return EndChange::Ignored;
         }
         self.remove_at(index);
-        Step::Denied(dest)
+        EndChange::Denied(dest)
     }
 }
 

@@ -9,7 +9,7 @@ ghost use Rattle.at_adsp_ends.specs.Receiving.{made_id, received, segment_came};
 ghost use Rattle.at_adsp_ends.specs.Tables.{by_remote};
 
 use crate::ends::Ends;
-use at_adsp_end::{Remote, Step};
+use at_adsp_end::{EndChange, Remote};
 use at_adsp_frame::{Body, OpenKind, Segment};
 use at_ddp::{Address, Outbox};
 use std::alloc::{AllocError, Allocator};
@@ -22,7 +22,7 @@ impl<A: Allocator + Copy> Ends<A> {
         from: Address,
         segment: &Segment<'_>,
         out: &mut Outbox<A>,
-    ) -> Result<Step, AllocError>
+    ) -> Result<EndChange, AllocError>
         ensures taken { IsTaken (received wire self.old from (content segment.now)) result self.old self.new out.old
             out.new }
         ensures memory { made_id (received wire self.old from (content segment.now)).answer ≡ None
@@ -67,7 +67,7 @@ impl<A: Allocator + Copy> Ends<A> {
         remote: Remote,
         segment: &Segment<'_>,
         out: &mut Outbox<A>,
-    ) -> Result<Step, AllocError>
+    ) -> Result<EndChange, AllocError>
         ensures taken { IsTaken (segment_came wire self.old (content segment.now) (by_remote self.old remote)) result
             self.old self.new out.old out.new }
         ensures memory { HasRoomToSend out.old
@@ -75,11 +75,11 @@ impl<A: Allocator + Copy> Ends<A> {
             → IsOk result }
     {
         let Some(index) = self.index_of_remote(remote) else {
-            return Ok(Step::Ignored);
+            return Ok(EndChange::Ignored);
         };
         let end = self.ends.at(index);
         if !end.is_open() {
-            return Ok(Step::Ignored);
+            return Ok(EndChange::Ignored);
         }
         let end = self.ends.at_mut(index);
         end.receive(segment, out)

@@ -1,5 +1,5 @@
 //! Why a segment is refused, with the number and the sentence of each refusal.
-ghost use Rattle.std.specs.Prelude.{◌≡◌, IfOk};
+ghost use Rattle.std.specs.Prelude.{◌≡◌};
 ghost use Rattle.at_adsp_frame.specs.declared.fault.AdspFault.TheVariants.{NoMemory};
 
 use std::alloc::AllocError;

@@ -1,5 +1,5 @@
 //! The reading of a segment. Its parts are tested in the order in which faults are reported.
-ghost use Rattle.std.specs.Prelude.{◌≡◌, ◌<◌, ◌≤◌, ◌/◌, ◌%◌, List, ℕ, length, IfOk, IfErr, IsOkAnd};
+ghost use Rattle.std.specs.Prelude.{◌≡◌, ◌<◌, ◌≤◌, ◌/◌, ◌%◌, ℕ, length, IfOk, IfErr, IsOkAnd};
 ghost use Rattle.at_adsp_frame.specs.Fault.{IsFirstFault, IsControlFault, IsOpeningFault, IsPartFault};
 ghost use Rattle.at_adsp_frame.specs.Openings.{SpellsOpening, read_dest};
 ghost use Rattle.at_adsp_frame.specs.Segments.{Content, Data, Open, Names, SpellsPart, Spells, content, part};

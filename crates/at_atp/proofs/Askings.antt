@@ -8,7 +8,7 @@ use Rattle.at_atp_frame.specs.declared.fault.AtpFault.{AtpFault}
 use Rattle.at_atp_requester.specs.Answers as arrivals
 use Rattle.at_atp_requester.specs.Requests.{next_number}
 use Rattle.at_atp_responder.specs.Once.{is_new_of}
-use Rattle.at_atp_responder.specs.Records.{answer_fault, taken}
+use Rattle.at_atp_responder.specs.Records.{answer_fault, received}
 use Rattle.at_atp_responder.specs.declared.reception.Key.{Key}
 use Rattle.at_atp_responder.specs.declared.reception.Reception.{Reception}
 use Rattle.at_atp_responder.specs.declared.reception.Reception.TheVariants as reception
@@ -54,7 +54,7 @@ begins A n who to user bytes wanted xo times (Some tid) e = Starts (record {
         responder = to;
         user = user;
         data_ = bytes;
-        wanted = length-replicate {A = Option arrivals.Arrival} wanted None i;
+        wanted = length-replicate {A = Option arrivals.AnswerPart} wanted None i;
         xo = xo;
         answers = [];
       } ∷ n.asked);
@@ -84,7 +84,7 @@ turned A n which user times s e (Some tid) f = Starts (record {
   };
   retries = times;
   begins = AfterOne (record {
-    which = which;
+    datagram = which;
     packet = s;
     turns = refl;
     ends = e;
@@ -125,10 +125,11 @@ answers A n at key packets None e =
 module _ (A : Type 0) (n : Network) (which : ℕ) (packets : List Packet) (s : Sent)
     (was_sent : packet_at n.sent which ≡ Some s) where
   serves_as : (network.serves n packets (packet_at n.sent which)).asked
-      ≡ (network.handed_up (network.takes n s) s.to packets (taken (n.responders s.to) s.from s.packet).reception).asked
+      ≡ (network.handed_up (network.takes n s) s.to packets (received
+      (n.responders s.to) s.from s.packet).reception).asked
   serves_as = ap (λ o. (network.serves n packets o).asked) was_sent
 
-  is_left : (r : Reception) → (taken (n.responders s.to) s.from s.packet).reception ≡ r
+  is_left : (r : Reception) → (received (n.responders s.to) s.from s.packet).reception ≡ r
       → (network.handed_up (network.takes n s) s.to packets r).asked ≡ n.asked → ChangesAsked A n (Serves which packets)
   is_left r e same = Leaves
       (record {
@@ -136,7 +137,7 @@ module _ (A : Type 0) (n : Network) (which : ℕ) (packets : List Packet) (s : S
         draws_none = λ other. refl;
       })
 
-  answered_now : (key : Key) → (taken (n.responders s.to) s.from s.packet).reception ≡ reception.New key
+  answered_now : (key : Key) → (received (n.responders s.to) s.from s.packet).reception ≡ reception.New key
       → (fault : Option AtpFault) → answer_fault ((network.takes n s).responders s.to) key packets ≡ fault
       → ChangesAsked A n (Serves which packets)
   answered_now key e (Some fault) f =
@@ -150,7 +151,7 @@ module _ (A : Type 0) (n : Network) (which : ℕ) (packets : List Packet) (s : S
     gives = λ other same. (ap (brings n other) was_sent ∙ ap (is_new_of other) e ∙ same, refl);
   })
 
-  by_reception : (r : Reception) → (taken (n.responders s.to) s.from s.packet).reception ≡ r
+  by_reception : (r : Reception) → (received (n.responders s.to) s.from s.packet).reception ≡ r
       → ChangesAsked A n (Serves which packets)
   by_reception (reception.New key) e =
       answered_now key e (answer_fault ((network.takes n s).responders s.to) key packets) refl
@@ -163,7 +164,7 @@ serves : (A : Type 0) (n : Network) (which : ℕ) (packets : List Packet) (o : O
 serves A n which packets None e =
     Leaves (record { same = ap (λ o. (network.serves n packets o).asked) e; draws_none = λ other. refl })
 serves A n which packets (Some s) e =
-    by_reception A n which packets s e (taken (n.responders s.to) s.from s.packet).reception refl
+    by_reception A n which packets s e (received (n.responders s.to) s.from s.packet).reception refl
 
 pub changes_asked : (A : Type 0) (n : Network) (h : Happening) → ChangesAsked A n h
 changes_asked A n (Begins who to user bytes wanted xo times) =

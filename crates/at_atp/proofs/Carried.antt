@@ -4,7 +4,7 @@ use Rattle.std.proofs.Common.{replicate, Option, Some, None, ◌⊎◌, inl, inr
 use Rattle.std.specs.Prelude.{slice_get, option_map, ◌==◌, ◌/◌, ◌%◌}
 use Rattle.std.specs.List.{AllByRecursion, Contains}
 use Rattle.at_ddp.specs.declared.address.Address.{Address}
-use Rattle.at_atp_requester.specs.Answers.{Arrival, whole, with_part}
+use Rattle.at_atp_requester.specs.Answers.{AnswerPart, whole, with_part}
 use Rattle.at_atp_frame.specs.Frames.{Content, Request, Response, Release, owner, number_of}
 use Rattle.at_atp_frame.specs.Packets.{Packet}
 use Rattle.at_atp_responder.specs.Records.{State, Waiting, Answered, Released, Record, responses}
@@ -39,7 +39,7 @@ tells_kept old new from to (Release tid) keeps h = (asked_kept old new from tid 
 -- ---- open transactions
 
 -- each packet that came is a packet of an answer
-abbrev pub PartsOf : Transaction → ℕ → List (Option Arrival) → Type 0
+abbrev pub PartsOf : Transaction → ℕ → List (Option AnswerPart) → Type 0
 PartsOf t place [] = Unit {0}
 PartsOf t place (None ∷ parts) = PartsOf t (place + 1) parts
 PartsOf t place (Some part ∷ parts) = IsPart t place part.eom part.packet × PartsOf t (place + 1) parts
@@ -53,7 +53,7 @@ pub record Holds (ts : List Transaction) (who : Address) (t : requests.Transacti
   pub wanted : (asked.transaction).wanted ≡ length t.parts
   pub parts : PartsOf asked.transaction 0 t.parts
 
-parts_kept : (t u : Transaction) (place : ℕ) (parts : List (Option Arrival)) → Extends t u → PartsOf t place parts
+parts_kept : (t u : Transaction) (place : ℕ) (parts : List (Option AnswerPart)) → Extends t u → PartsOf t place parts
     → PartsOf u place parts
 parts_kept t u place [] extends h = tt
 parts_kept t u place (None ∷ parts) extends h = parts_kept t u (place + 1) parts extends h
@@ -78,7 +78,8 @@ pub no_parts : (t : Transaction) (place n : ℕ) → PartsOf t place (replicate 
 no_parts t place zero = tt
 no_parts t place (suc n) = no_parts t (place + 1) n
 
-pub parts_with : (t : Transaction) (at place : ℕ) (parts : List (Option Arrival)) (part : Arrival) → PartsOf t at parts
+pub parts_with : (t : Transaction) (at place : ℕ) (parts : List (Option AnswerPart)) (part : AnswerPart)
+    → PartsOf t at parts
     → IsPart t (at + place) part.eom part.packet → PartsOf t at (with_part parts place part)
 parts_with t at place [] part h is = tt
 parts_with t at zero (None ∷ parts) part h is = (subst (λ k. IsPart t k part.eom part.packet) (omega arith) is, h)
@@ -96,7 +97,7 @@ no_packets packets h = cc
 one_packet : (p : Packet) (packets : List Packet) → Some (p ∷ []) ≡ Some packets → p ∷ [] ≡ packets
 one_packet p packets h = cc
 
-pub record Wholly (t : Transaction) (at : ℕ) (parts : List (Option Arrival)) (packets : List Packet) : Type 0 where
+pub record Wholly (t : Transaction) (at : ℕ) (parts : List (Option AnswerPart)) (packets : List Packet) : Type 0 where
   pub are : AreParts t at packets
   pub few : length packets ≤ length parts
   pub some : 1 ≤ length parts → 1 ≤ length packets
@@ -108,7 +109,7 @@ ends_later t at p [] n (inl e) = absurd e
 ends_later t at p (q ∷ qs) n (inl e) = inl e
 ends_later t at p qs n (inr e) = inr (omega (arith, e))
 
-pub wholly : (t : Transaction) (at : ℕ) (parts : List (Option Arrival)) (packets : List Packet) → PartsOf t at parts
+pub wholly : (t : Transaction) (at : ℕ) (parts : List (Option AnswerPart)) (packets : List Packet) → PartsOf t at parts
     → whole parts ≡ Some packets → Wholly t at parts packets
 wholly t at [] packets h is = subst (Wholly t at []) (sym (no_packets packets is))
     (record { are = tt; few = lit≤ tt; some = λ k. k; ends = inr refl })

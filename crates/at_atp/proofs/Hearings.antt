@@ -8,7 +8,7 @@ use Rattle.std.proofs.lemmas.List.{length-set}
 use Rattle.at_ddp.specs.Address.{same_address}
 use Rattle.at_ddp.specs.declared.address.Address.{Address}
 use Rattle.at_ddp.proofs.Octets.{same_address-true}
-use Rattle.at_atp_requester.specs.Answers.{Arrival, is_wanted, whole, with_part}
+use Rattle.at_atp_requester.specs.Answers.{AnswerPart, is_wanted, whole, with_part}
 use Rattle.at_atp_frame.specs.Frames.{Content, Request, Response, Release, number_of}
 use Rattle.at_atp_frame.specs.Packets.{Packet}
 use Rattle.at_atp_requester.specs.Requests.{Requests, Effect, Heard, Retried, came, came_for, was_kept}
@@ -17,7 +17,7 @@ use Rattle.at_atp_requester.specs.Requests.{is_numbered}
 use Rattle.at_atp_requester.specs.Requests as requests
 use Rattle.at_ddp.specs.Tables.{replaced, without_first}
 use Rattle.at_atp.specs.Transactions.{Transaction, transaction_of, Asked, IsPart, EndsAnswer, IsResponse}
-use Rattle.at_atp_requester.specs.declared.step.Step.TheVariants.{Finished}
+use Rattle.at_atp_requester.specs.declared.progress.RequestProgress.TheVariants.{Finished}
 use Rattle.at_ddp.proofs.Alls.{all_replaced, all_without, all_found}
 use Rattle.at_atp.proofs.Carried.{Tells, Holds, parts_with, wholly}
 use Rattle.at_atp.proofs.Newest.{one_newest}
@@ -48,17 +48,17 @@ released ts who t asked = go t.xo
     go true = (asked, tt)
     go false = tt
 
-wanted_some : (parts : List (Option Arrival)) (place : ℕ) → is_wanted parts place ≡ true → 1 ≤ length parts
+wanted_some : (parts : List (Option AnswerPart)) (place : ℕ) → is_wanted parts place ≡ true → 1 ≤ length parts
 wanted_some [] place h = absurd (false≢true h)
 wanted_some (p ∷ parts) place h = omega arith
 
 -- a packet of an answer came for an open transaction
 pub came_sound : (A : Type 0) (ts : List Transaction) (who : Address) (t : requests.Transaction) (place : ℕ)
-    (part : Arrival) (sts : Bool) (h : Holds ts who t) → IsPart (h.asked).transaction place part.eom part.packet →
+    (part : AnswerPart) (sts : Bool) (h : Holds ts who t) → IsPart (h.asked).transaction place part.eom part.packet →
     Sound A ts who t.tid t.to (came {A = A} t place part sts)
 came_sound A ts who t place part sts h is = go (is_wanted t.parts place) refl
   where
-    parts : List (Option Arrival)
+    parts : List (Option AnswerPart)
     parts = with_part t.parts place part
 
     same_length : length (with_part t.parts place part) ≡ length t.parts
@@ -150,7 +150,7 @@ its_own t tid from h =
     (eqb-true t.tid tid both.0, same_address-true t.to from both.1)
 
 came_sound_for : (A : Type 0) (ts : List Transaction) (who from : Address) (tid : ℕ) (t : requests.Transaction)
-    (place : ℕ) (part : Arrival) (sts : Bool) → Holds ts who t → t.tid ≡ tid → t.to ≡ from →
+    (place : ℕ) (part : AnswerPart) (sts : Bool) → Holds ts who t → t.tid ≡ tid → t.to ≡ from →
     (a : Asked ts who tid from) → IsPart a.transaction place part.eom part.packet
     → Sound A ts who tid from (came {A = A} t place part sts)
 came_sound_for A ts who from tid t place part sts h numbered asked a is =
@@ -178,7 +178,7 @@ heard_sound A ts who from r (Release tid) all tells = ignored_sound A ts who tid
 heard_sound A ts who from r (Response place eom sts tid user bytes) all tells =
     go (find (is_of tid from) r.standing) refl
   where
-    part : Arrival
+    part : AnswerPart
     part = record { eom = eom; packet = record { user = user; data_ = bytes } }
 
     go : (o : Option requests.Transaction) → find (is_of tid from) r.standing ≡ o

@@ -10,7 +10,7 @@ use Rattle.at_atp.specs.Network.{Retries, Other, begins, turns, ending, number_a
 use Rattle.at_atp.specs.Network.{takes_in, serves, expires, retries, is_fresh, done, tick, after, IsTimely, AllTimely}
 use Rattle.at_atp.specs.Network.{GivesAnswers}
 use Rattle.at_atp_frame.specs.Packets.{Packet}
-use Rattle.at_atp_responder.specs.Records.{is_key, taken, answer_fault, expiry_fault}
+use Rattle.at_atp_responder.specs.Records.{is_key, received, answer_fault, expiry_fault}
 use Rattle.at_atp_requester.specs.Requests as requests
 use Rattle.at_atp_requester.specs.Requests.{is_numbered, next_number, retried}
 use Rattle.at_atp.specs.Transactions.{transaction_of}
@@ -81,7 +81,7 @@ same_event A n (Serves which packets) = go (packet_at n.sent which)
   where
     go : (o : Option Sent) → (serves n packets o).event ≡ n.event
     go None = refl
-    go (Some s) = handed (takes n s) s.to packets (taken (n.responders s.to) s.from s.packet).reception
+    go (Some s) = handed (takes n s) s.to packets (received (n.responders s.to) s.from s.packet).reception
 same_event A n (Expires at key) = go (expiry_fault (find (is_key key) (n.responders at)))
   where
     go : (o : Option AtpFault) → (expires n at key o).event ≡ n.event

@@ -7,7 +7,7 @@ use Rattle.std.proofs.lemmas.Bool.{leb-true}
 use Rattle.std.proofs.lemmas.List.{length-replicate}
 use Rattle.at_ddp.specs.Datagram.{IsAddress}
 use Rattle.at_ddp.specs.declared.address.Address.{Address}
-use Rattle.at_atp_requester.specs.Answers.{Arrival}
+use Rattle.at_atp_requester.specs.Answers.{AnswerPart}
 use Rattle.at_atp.specs.Lawfully.{IsAsking, IsInRange, IsLawfullySent}
 use Rattle.at_ddp.specs.Posts.{AllSent, packet_at}
 use Rattle.at_atp.specs.Network.{Network, Sent, Happening, Begins, Answers, Hears, Turns, Takes, Serves, Expires}
@@ -15,7 +15,7 @@ use Rattle.at_atp.specs.Network.{Retries, Other, begins, begun, turns, ending, n
 use Rattle.at_atp.specs.Network.{takes, takes_in, handed_up, serves, expires, retries, done, after}
 use Rattle.at_atp_frame.specs.Packets.{Packet, IsPacket}
 use Rattle.at_atp_responder.specs.Records.{Answered, Released, Record, is_key, is_kept}
-use Rattle.at_atp_responder.specs.Records.{taken, answer_fault, asked_for, asked_bitmap, after_answer, expiry_fault}
+use Rattle.at_atp_responder.specs.Records.{received, answer_fault, asked_for, asked_bitmap, after_answer, expiry_fault}
 use Rattle.at_atp_responder.specs.Records.{fit, record_fault}
 use Rattle.at_atp_requester.specs.Requests.{Retried, next_number, beginning, request_by, came}
 use Rattle.at_atp_requester.specs.Requests.{heard}
@@ -97,8 +97,8 @@ takes_fits : (n : Network) (which : ℕ) (s : Sent) → Fits n → packet_at n.s
 takes_fits n which s fits e =
     let l = sent_at IsLawfullySent n.sent which s fits.sent e in
     let t = taken_fits (n.responders s.to) s.from s.packet (fits.responders s.to) l.from_fits l.lawful in
-    responder_fits n s.to (taken (n.responders s.to) s.from s.packet).after
-    (taken (n.responders s.to) s.from s.packet).sent fits l.to_fits t.after t.sent
+    responder_fits n s.to (received (n.responders s.to) s.from s.packet).after
+    (received (n.responders s.to) s.from s.packet).sent fits l.to_fits t.after t.sent
 
 handed_fits : (n : Network) (at : Address) (packets : List Packet) (r : Reception) → Fits n → IsAddress at
     → AllByRecursion IsPacket packets → Fits (handed_up n at packets r)
@@ -128,7 +128,7 @@ begun_fits n who to user bytes wanted xo times tid fits a numbered =
       tid = numbered;
       to = a.to_fits;
       asks = a.asks;
-      few = let few = a.few in omega (arith, few, length-replicate {A = Option Arrival} wanted None);
+      few = let few = a.few in omega (arith, few, length-replicate {A = Option AnswerPart} wanted None);
     }
 
 hears_fits : (A : Type 0) (n : Network) (which : ℕ) (s : Sent) → Fits n → packet_at n.sent which ≡ Some s
@@ -178,7 +178,7 @@ done_fits A n (Serves which packets) fits range = go (packet_at n.sent which) re
   where
     go : (o : Option Sent) → packet_at n.sent which ≡ o → Fits (serves n packets o)
     go None e = fits
-    go (Some s) e = handed_fits (takes n s) s.to packets (taken (n.responders s.to) s.from s.packet).reception
+    go (Some s) e = handed_fits (takes n s) s.to packets (received (n.responders s.to) s.from s.packet).reception
         (takes_fits n which s fits e) (sent_at IsLawfullySent n.sent which s fits.sent e).to_fits range
 done_fits A n (Expires at key) fits range = go (expiry_fault (find (is_key key) (n.responders at)))
   where

@@ -6,13 +6,13 @@ use Rattle.std.specs.List.{AllByRecursion}
 use Rattle.std.proofs.lemmas.List.{length-set}
 use Rattle.at_ddp.specs.Datagram.{IsAddress}
 use Rattle.at_ddp.specs.declared.address.Address.{Address}
-use Rattle.at_atp_requester.specs.Answers.{Arrival, is_wanted, whole, with_part}
+use Rattle.at_atp_requester.specs.Answers.{AnswerPart, is_wanted, whole, with_part}
 use Rattle.at_atp_frame.specs.Frames.{Content, Request, Response, Release, IsLawful}
 use Rattle.at_atp.specs.Network.{retries, after}
 use Rattle.at_atp_frame.specs.Packets.{Packet}
-use Rattle.at_atp_responder.specs.Records.{State, Waiting, Answered, Released, Record, Taken, is_key, repeated}
+use Rattle.at_atp_responder.specs.Records.{State, Waiting, Answered, Released, Record, Received, is_key, repeated}
 use Rattle.at_atp_responder.specs.Records.{released, came_again, request_came, release_came, passed, is_passed_over}
-use Rattle.at_atp_responder.specs.Records.{taken}
+use Rattle.at_atp_responder.specs.Records.{received}
 use Rattle.at_atp_requester.specs.Requests.{Transaction, Requests, Retried, came}
 use Rattle.at_atp_requester.specs.Requests.{came_for, was_kept, is_finished, is_of, response_came, Effect, Heard, heard}
 use Rattle.at_atp_requester.specs.Requests.{is_numbered, retried_with, retried}
@@ -28,7 +28,7 @@ pub record FitsEffect (A : Type 0) (e : Effect A) : Type 0 where
   pub after : FitsOpen e.after
   pub sent : FitSent e.sent
 
-came_fits : (A : Type 0) (t : Transaction) (place : ℕ) (part : Arrival) (sts : Bool) → FitsOpen t
+came_fits : (A : Type 0) (t : Transaction) (place : ℕ) (part : AnswerPart) (sts : Bool) → FitsOpen t
     → FitsEffect A (came {A = A} t place part sts)
 came_fits A t place part sts f = go (is_wanted t.parts place) sts
   where
@@ -130,7 +130,7 @@ retried_fits r tid x fits is = go (find (is_numbered tid) r.standing) refl is
 
 -- ---- a packet comes to a responder
 
-pub record FitsTaken (t : Taken) : Type 0 where
+pub record FitsTaken (t : Received) : Type 0 where
   pub after : AllByRecursion FitsRecord t.after
   pub sent : FitSent t.sent
 
@@ -170,7 +170,7 @@ release_fits rs key None e all = record { after = all; sent = tt }
 release_fits rs key (Some r) e all = released_fits rs key r all (all_found FitsRecord (is_key key) rs r all e).0
 
 pub taken_fits : (rs : List Record) (from : Address) (f : Content) → AllByRecursion FitsRecord rs → IsAddress from
-    → IsLawful f → FitsTaken (taken rs from f)
+    → IsLawful f → FitsTaken (received rs from f)
 taken_fits rs from (Response place eom sts tid user bytes) all fits lawful = record { after = all; sent = tt }
 taken_fits rs from (Release tid) all fits lawful = release_fits rs (record { from = from; tid = tid })
     (find (is_key (record { from = from; tid = tid })) rs) refl all

@@ -1,6 +1,6 @@
 -- What a timely history leaves true of a network.
 use Rattle.std.proofs.Common.{◌≡◌, ℕ, ◌+◌, ◌<◌, Bool, true, false, cond, List, [], ◌∷◌, ◌++◌, Option, Some, None, refl}
-use Rattle.std.proofs.Common.{subst, ◌∙◌, arith}
+use Rattle.std.proofs.Common.{subst, ◌∙◌}
 use Rattle.std.specs.Prelude.{find, IfSome}
 use Rattle.std.specs.List.{AllByRecursion, Contains}
 use Rattle.at_ddp.specs.declared.address.Address.{Address}
@@ -9,7 +9,7 @@ use Rattle.at_ddp.specs.Posts.{AllSent, packet_at, stamped}
 use Rattle.at_atp.specs.Network.{Network, Sent, Drawn, is_fresh, with_requester, with_responder, answers, gives, hears}
 use Rattle.at_atp.specs.Network.{takes, takes_in, handed_up, serves, expires, retries, ComesInTime}
 use Rattle.at_atp_frame.specs.Packets.{Packet}
-use Rattle.at_atp_responder.specs.Records.{Answered, Record, is_key, is_kept, taken, answer_fault, asked_for}
+use Rattle.at_atp_responder.specs.Records.{Answered, Record, is_key, is_kept, received, answer_fault, asked_for}
 use Rattle.at_atp_responder.specs.Records.{asked_bitmap, after_answer, expiry_fault}
 use Rattle.at_atp_requester.specs.Requests.{Requests, Retried, heard, retried}
 use Rattle.at_ddp.specs.Tables.{replaced, without_first}
@@ -113,8 +113,8 @@ pub took_sound : (n : Network) (which : ℕ) (s : Sent) → Sound (n.event + 1) 
 took_sound n which s sound timely e =
     let t = taken_sound n.asked s.to s.from (n.responders s.to) s.packet (sound.records s.to)
     (tells_at (n.event + 1) n which s sound e (timely s e)) in
-    responder_sound n s.to (taken (n.responders s.to) s.from s.packet).after
-    (taken (n.responders s.to) s.from s.packet).sent sound t.records t.sent
+    responder_sound n s.to (received (n.responders s.to) s.from s.packet).after
+    (received (n.responders s.to) s.from s.packet).sent sound t.records t.sent
 
 pub takes_sound : (n : Network) (which : ℕ) → Sound (n.event + 1) n → ComesInTime n which
     → Sound (n.event + 1) (takes_in n (packet_at n.sent which))
@@ -229,7 +229,7 @@ serves_sound n which packets sound timely = go (packet_at n.sent which) refl
   where
     go : (o : Option Sent) → packet_at n.sent which ≡ o → Sound (n.event + 1) (serves n packets o)
     go None e = sound
-    go (Some s) e = handed_sound (takes n s) s.to packets (taken (n.responders s.to) s.from s.packet).reception
+    go (Some s) e = handed_sound (takes n s) s.to packets (received (n.responders s.to) s.from s.packet).reception
         (took_sound n which s sound timely e)
 
 -- ---- records that expire

@@ -34,9 +34,6 @@ abbrev pub Keeps : List Transaction → List Transaction → Address → ℕ →
 Keeps old new who tid = (t : Transaction) → transaction_of old who tid ≡ Some t → (u : Transaction)
     × (transaction_of new who tid ≡ Some u) × Extends t u
 
-pub keeps_itself : (ts : List Transaction) (who : Address) (tid : ℕ) → Keeps ts ts who tid
-keeps_itself ts who tid = λ t is. (t, is, itself t)
-
 -- another begins
 pub begun_keeps : (ts : List Transaction) (t : Transaction) (who : Address) (tid : ℕ) → is_transaction who tid t
     ≡ false → Keeps ts (t ∷ ts) who tid

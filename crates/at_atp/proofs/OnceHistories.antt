@@ -18,7 +18,7 @@ use Rattle.at_atp.specs.Network.{handed_up, hears, takes, takes_in, serves, expi
 use Rattle.at_atp.specs.Network.{IsTimely, AllTimely}
 use Rattle.at_atp_responder.specs.Once.{same_key}
 use Rattle.at_atp_frame.specs.Packets.{Packet}
-use Rattle.at_atp_responder.specs.Records.{State, Waiting, Answered, Released, Record, is_key, taken, record_fault}
+use Rattle.at_atp_responder.specs.Records.{State, Waiting, Answered, Released, Record, is_key, received, record_fault}
 use Rattle.at_atp_responder.specs.Records.{answer_fault, expiry_fault}
 use Rattle.at_atp_requester.specs.Requests as requests
 use Rattle.at_atp_requester.specs.Requests.{next_number, retried, beginning}
@@ -138,7 +138,7 @@ step A waits (Serves which packets) hs sound timely lives each = go (packet_at (
     go (Some s) e =
         handed_once waits ((after A hs).event + 1) (takes (after A hs) s)
         (λ key. cond (brings (after A hs) key (Some s)) (hand_ups_since A hs key + 1) (hand_ups_since A hs key))
-        (has_expired A hs) s.to packets (taken ((after A hs).responders s.to) s.from s.packet).reception
+        (has_expired A hs) s.to packets (received ((after A hs).responders s.to) s.from s.packet).reception
         (took_sound (after A hs) which s (later (after A hs) sound) timely e)
         (comes_once (after A hs).asked (after A hs).responders (hand_ups_since A hs)
         (has_expired A hs) s.from s.to s.packet

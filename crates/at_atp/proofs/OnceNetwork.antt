@@ -8,7 +8,7 @@ use Rattle.at_atp_frame.specs.Frames.{Content, Request, Response, Release, numbe
 use Rattle.at_ddp.specs.Posts.{put}
 use Rattle.at_atp_responder.specs.Once.{same_key, is_new_of}
 use Rattle.at_atp_frame.specs.Packets.{Packet}
-use Rattle.at_atp_responder.specs.Records.{Record, is_key, Taken, passed, request_came, is_passed_over, taken}
+use Rattle.at_atp_responder.specs.Records.{Record, is_key, Received, passed, request_came, is_passed_over, received}
 use Rattle.at_atp_responder.specs.Records.{record_fault, after_answer, expiry_fault}
 use Rattle.at_ddp.specs.Tables.{without_first}
 use Rattle.at_ddp.proofs.PostLemmas.{put_here}
@@ -52,7 +52,7 @@ IsAlive expired from at (Response place eom sts tid user bytes) = Unit {0}
 IsAlive expired from at (Release tid) = Unit {0}
 
 -- the stage after a packet
-abbrev Left : (Key → ℕ) → (Address → Key → Bool) → Key → Taken → List (List Packet) → Address → List Record → Type 0
+abbrev Left : (Key → ℕ) → (Address → Key → Bool) → Key → Received → List (List Packet) → Address → List Record → Type 0
 Left hands expired key t answers at rs = Stage answers (more_if (is_new_of key t.reception) (hands key))
     (expired at key) (those key rs)
 
@@ -60,8 +60,8 @@ abbrev Comes : List Transaction → (Address → List Record) → (Key → ℕ) 
     → Content → Key → Address → Type 0
 Comes asked responders hands expired from place f key at = (a : Asked asked key.from key.tid at) → a.transaction.xo
     ≡ true → Stage a.transaction.answers (hands key) (expired at key) (those key (responders at)) →
-    Left hands expired key (taken (responders place) from f) a.transaction.answers at
-    (put responders place (taken (responders place) from f).after at)
+    Left hands expired key (received (responders place) from f) a.transaction.answers at
+    (put responders place (received (responders place) from f).after at)
 
 other_comes : (asked : List Transaction) (responders : Address → List Record) (hands : Key → ℕ)
     (expired : Address → Key → Bool) (from place : Address) (f : Content) (key : Key) (at : Address)
@@ -70,9 +70,9 @@ other_comes : (asked : List Transaction) (responders : Address → List Record) 
 other_comes asked responders hands expired from place f key at other = λ a xo stage.
     let quiet = others_taken key (responders place) from f other in
     subst (λ b. Stage a.transaction.answers (more_if b (hands key)) (expired at key)
-    (those key (put responders place (taken (responders place) from f).after at))) (sym quiet.0)
+    (those key (put responders place (received (responders place) from f).after at))) (sym quiet.0)
     (subst (Stage a.transaction.answers (hands key) (expired at key))
-    (sym (those_put key responders place (taken (responders place) from f).after at quiet.1)) stage)
+    (sym (those_put key responders place (received (responders place) from f).after at quiet.1)) stage)
 
 -- a packet of its own key
 release_comes : (asked : List Transaction) (responders : Address → List Record) (hands : Key → ℕ)
@@ -83,9 +83,9 @@ release_comes asked responders hands expired place key at =
   where
     go : (answers : List (List Packet)) → Stage answers (hands key) (expired at key) (those key (responders at))
         → (b : Bool) → same_address place at ≡ b →
-        Stage answers (more_if (is_new_of key (taken (responders place) key.from (Release key.tid)).reception)
+        Stage answers (more_if (is_new_of key (received (responders place) key.from (Release key.tid)).reception)
         (hands key)) (expired at key)
-        (those key (cond b (taken (responders place) key.from (Release key.tid)).after (responders at)))
+        (those key (cond b (received (responders place) key.from (Release key.tid)).after (responders at)))
     go answers stage true e =
         release_staged key (responders place) answers (hands key) (expired at key)
         (subst (λ x. Stage answers (hands key) (expired at key) (those key (responders x)))
@@ -101,7 +101,7 @@ request_comes : (asked : List Transaction) (responders : Address → List Record
     Comes asked responders hands expired key.from place (Request mask xo timer key.tid user bytes) key at
 request_comes asked responders hands expired place key at mask xo timer user bytes t is alive = λ a once stage.
     let same = asks_there asked key place at t a in
-    let came = taken (responders place) key.from (Request mask xo timer key.tid user bytes) in
+    let came = received (responders place) key.from (Request mask xo timer key.tid user bytes) in
     subst (λ x. Left hands expired key came a.transaction.answers x (put responders place came.after x)) same.1
     (subst (Left hands expired key came a.transaction.answers place) (sym (put_here responders place came.after))
     (go a.transaction.answers (sym is ∙ ap (λ x. x.xo) same.0 ∙ once)
@@ -137,8 +137,8 @@ own_comes asked responders hands expired from place (Request mask xo timer tid u
 pub comes_once : (asked : List Transaction) (responders : Address → List Record) (hands : Key → ℕ)
     (expired : Address → Key → Bool) (from place : Address) (f : Content) → Tells asked from place f
     → IsAlive expired from place f → EachOnce asked responders hands expired →
-    EachOnce asked (put responders place (taken (responders place) from f).after)
-    (λ key. more_if (is_new_of key (taken (responders place) from f).reception) (hands key)) expired
+    EachOnce asked (put responders place (received (responders place) from f).after)
+    (λ key. more_if (is_new_of key (received (responders place) from f).reception) (hands key)) expired
 comes_once asked responders hands expired from place f tells alive each =
     λ key at a xo. go key at (same_key (record { from = from; tid = number_of f }) key) refl a xo (each key at a xo)
   where

@@ -7,7 +7,7 @@ use Rattle.std.proofs.Math.Pow.{pow_mono}
 use Rattle.std.proofs.Math.Nat.{pow-suc}
 use Rattle.at_ddp.specs.Datagram.{IsAddress}
 use Rattle.at_ddp.specs.declared.address.Address.{Address}
-use Rattle.at_atp_requester.specs.Answers.{Arrival, bitmap_of}
+use Rattle.at_atp_requester.specs.Answers.{AnswerPart, bitmap_of}
 use Rattle.at_atp_frame.specs.Frames.{Content, Response, IsTimer, IsLawful}
 use Rattle.at_atp_frame.specs.Frames as frames
 use Rattle.at_atp.specs.Lawfully.{IsLawfullySent}
@@ -23,7 +23,7 @@ use Rattle.at_ddp.proofs.NumberLemmas.{is_free}
 
 -- ---- masks and numbers
 
-mask_fits : (parts : List (Option Arrival)) → bitmap_of parts < 2 ^ length parts
+mask_fits : (parts : List (Option AnswerPart)) → bitmap_of parts < 2 ^ length parts
 mask_fits [] = lit< tt
 mask_fits (None ∷ parts) = let rest = mask_fits parts in let twice = pow-suc 2 (length parts) in
     omega (arith, rest, twice)
@@ -33,7 +33,7 @@ mask_fits (Some part ∷ parts) = go (mask_fits parts) part.eom
     go rest true = let twice = pow-suc 2 (length parts) in omega (arith, rest, twice)
     go rest false = let twice = pow-suc 2 (length parts) in omega (arith, rest, twice)
 
-few_bits : (parts : List (Option Arrival)) → length parts ≤ 8 → bitmap_of parts < 256
+few_bits : (parts : List (Option AnswerPart)) → length parts ≤ 8 → bitmap_of parts < 256
 few_bits parts few =
     let m = mask_fits parts in
     let wide : 2 ^ length parts ≤ 2 ^ 8 = pow_mono few in

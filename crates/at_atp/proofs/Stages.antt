@@ -6,9 +6,10 @@ use Rattle.at_ddp.specs.declared.address.Address.{Address}
 use Rattle.at_atp_frame.specs.Frames.{Content, Request, Response, Release, number_of}
 use Rattle.at_atp_responder.specs.Once.{same_key, is_new_of}
 use Rattle.at_atp_frame.specs.Packets.{Packet}
-use Rattle.at_atp_responder.specs.Records.{State, Waiting, Answered, Released, Record, Repeat, Taken, is_key, repeated}
+use Rattle.at_atp_responder.specs.Records.{State, Waiting, Answered, Released, Record, Repeat, Received, is_key}
+use Rattle.at_atp_responder.specs.Records.{repeated}
 use Rattle.at_atp_responder.specs.Records.{released, came_again, request_came, release_came, passed, is_passed_over}
-use Rattle.at_atp_responder.specs.Records.{taken, record_fault, state_fault, is_kept, keeps_answer, after_answer}
+use Rattle.at_atp_responder.specs.Records.{received, record_fault, state_fault, is_kept, keeps_answer, after_answer}
 use Rattle.at_atp_responder.specs.Records.{expiry_fault, expiry_fault_of}
 use Rattle.at_ddp.specs.Tables.{replaced, without_first}
 use Rattle.at_atp_responder.specs.declared.reception.Key.{Key}
@@ -38,7 +39,7 @@ more_if b n = cond b (n + 1) n
 
 -- ---- a packet of this key comes
 
-abbrev IsStaged : Key → List (List Packet) → ℕ → Bool → Taken → Type 0
+abbrev IsStaged : Key → List (List Packet) → ℕ → Bool → Received → Type 0
 IsStaged key answers hands expired t = Stage answers (more_if (is_new_of key t.reception) hands) expired
     (those key t.after)
 
@@ -189,7 +190,7 @@ others_answered key k rs packets other = go (is_kept (find (is_key k) rs))
     go true = others_replaced key k (record { key = k; state = Answered packets }) rs other (same_itself k)
     go false = others_without key k rs other
 
-abbrev pub IsOther : Key → List Record → Taken → Type 0
+abbrev pub IsOther : Key → List Record → Received → Type 0
 IsOther key rs t = (is_new_of key t.reception ≡ false) × (those key t.after ≡ those key rs)
 
 others_again : (key k : Key) (rs : List Record) (r : Record) (e : Repeat) → same_key k key ≡ false → find (is_key k) rs
@@ -198,7 +199,7 @@ others_again key k rs r e other is old =
     (old, others_replaced key k (record r { state = e.state }) rs other (found_passes (is_key k) rs r is))
 
 pub others_taken : (key : Key) (rs : List Record) (from : Address) (f : Content)
-    → same_key (record { from = from; tid = number_of f }) key ≡ false → IsOther key rs (taken rs from f)
+    → same_key (record { from = from; tid = number_of f }) key ≡ false → IsOther key rs (received rs from f)
 others_taken key rs from (Response place eom sts tid user bytes) other = (refl, refl)
 others_taken key rs from (Release tid) other = go (find (is_key (record { from = from; tid = tid })) rs) refl
   where

@@ -5,9 +5,9 @@ use Rattle.std.specs.List.{AllByRecursion, Contains}
 use Rattle.at_ddp.specs.declared.address.Address.{Address}
 use Rattle.at_atp_frame.specs.Frames.{Content, Request, Response, Release}
 use Rattle.at_atp_frame.specs.Packets.{Packet}
-use Rattle.at_atp_responder.specs.Records.{State, Waiting, Answered, Released, Record, Taken, is_key, responses}
+use Rattle.at_atp_responder.specs.Records.{State, Waiting, Answered, Released, Record, Received, is_key, responses}
 use Rattle.at_atp_responder.specs.Records.{repeated, released, came_again, request_came, release_came, passed}
-use Rattle.at_atp_responder.specs.Records.{is_passed_over, taken}
+use Rattle.at_atp_responder.specs.Records.{is_passed_over, received}
 use Rattle.at_ddp.specs.Tables.{replaced}
 use Rattle.at_atp.specs.Transactions.{Transaction, transaction_of, Asked}
 use Rattle.at_atp_responder.specs.declared.reception.Key.{Key}
@@ -16,7 +16,7 @@ use Rattle.at_atp.proofs.Carried.{Tells, Waits, Kept, responses_tell}
 use Rattle.at_atp.proofs.Hearings.{TellsAll}
 use Rattle.at_atp.proofs.KeyedRecords.{one_key}
 
-pub record SoundTaken (ts : List Transaction) (at : Address) (t : Taken) : Type 0 where
+pub record SoundTaken (ts : List Transaction) (at : Address) (t : Received) : Type 0 where
   pub records : AllByRecursion (Waits ts at) t.after
   pub sent : TellsAll ts at t.sent
 
@@ -81,7 +81,7 @@ release_sound ts at rs key (Some r) is all =
     released_sound ts at rs key r all (all_found (Waits ts at) (is_key key) rs r all is).0
 
 pub taken_sound : (ts : List Transaction) (at from : Address) (rs : List Record) (f : Content)
-    → AllByRecursion (Waits ts at) rs → Tells ts from at f → SoundTaken ts at (taken rs from f)
+    → AllByRecursion (Waits ts at) rs → Tells ts from at f → SoundTaken ts at (received rs from f)
 taken_sound ts at from rs (Response place eom sts tid user bytes) all tells = record { records = all; sent = tt }
 taken_sound ts at from rs (Release tid) all tells = release_sound ts at rs (record { from = from; tid = tid })
     (find (is_key (record { from = from; tid = tid })) rs) refl all

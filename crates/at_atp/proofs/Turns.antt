@@ -9,7 +9,7 @@ use Rattle.at_ddp.proofs.Octets.{same_address_itself}
 use Rattle.at_ddp.proofs.Alls.{all_both}
 use Rattle.at_atp_frame.specs.Frames.{Content, Request, Response, Release}
 use Rattle.at_atp_frame.specs.Packets.{Packet}
-use Rattle.at_atp_requester.specs.Answers.{Arrival, is_wanted, whole, with_part}
+use Rattle.at_atp_requester.specs.Answers.{AnswerPart, is_wanted, whole, with_part}
 use Rattle.at_atp_requester.specs.Requests.{Transaction, Requests, is_of, is_at_least_once, came, came_for, was_kept}
 use Rattle.at_atp_requester.specs.Requests.{is_finished, response_came, next_number, heard, finishes}
 use Rattle.at_ddp.specs.Posts.{packet_at}
@@ -41,7 +41,7 @@ ends A n which s is = go (packet_at n.sent which) refl is
 
 -- ---- it sends nothing
 
-came_quietly : (A : Type 0) (t : Transaction) (place : ℕ) (part : Arrival) (sts : Bool) → t.xo ≡ false
+came_quietly : (A : Type 0) (t : Transaction) (place : ℕ) (part : AnswerPart) (sts : Bool) → t.xo ≡ false
     → is_finished (came {A = A} t place part sts).step ≡ true → (came {A = A} t place part sts).sent ≡ []
 came_quietly A t place part sts not_xo h = go (is_wanted t.parts place) sts h
   where

@@ -12,7 +12,7 @@ use Rattle.at_atp.specs.Transactions.{Transaction, is_transaction, answered}
 -- the happening gives this answer to the request of a key
 abbrev pub Gives : Network → Happening → Key → List Packet → Type 0
 Gives n (Answers at k packets) key answer = (same_key k key ≡ true) × (packets ≡ answer)
-Gives n (Serves which packets) key answer = (brings n key (packet_at n.sent which) ≡ true) × (packets ≡ answer)
+Gives n (Serves datagram packets) key answer = (brings n key (packet_at n.sent datagram) ≡ true) × (packets ≡ answer)
 Gives n h key answer = ⊥
 
 -- all stays as it was asked
@@ -22,10 +22,10 @@ pub record LeavesAsked (A : Type 0) (n : Network) (h : Happening) : Type 0 where
 
 -- a packet ends another transaction, and this one asks its sender for one packet, at least once and without data
 pub record FollowsOne (A : Type 0) (n : Network) (h : Happening) (t : Transaction) (retries : ℕ) : Type 0 where
-  pub which : ℕ
+  pub datagram : ℕ
   pub packet : Sent
-  pub turns : h ≡ Turns which t.user retries
-  pub ends : ending A n (packet_at n.sent which) ≡ Some packet
+  pub turns : h ≡ Turns datagram t.user retries
+  pub ends : ending A n (packet_at n.sent datagram) ≡ Some packet
   pub requester : t.requester ≡ packet.to
   pub responder : t.responder ≡ packet.from
   pub no_data : t.data_ ≡ []

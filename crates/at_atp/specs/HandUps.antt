@@ -14,7 +14,7 @@ use Rattle.at_atp_responder.specs.Records.{is_key, expiry_fault}
 use Rattle.at_atp_requester.specs.Requests.{next_number, heard}
 use Rattle.at_atp.specs.Transactions.{Transaction, Asked, transaction_of}
 use Rattle.at_atp_responder.specs.declared.reception.Key.{Key}
-use Rattle.at_atp_requester.specs.declared.step.Step.TheVariants as step
+use Rattle.at_atp_requester.specs.declared.progress.RequestProgress.TheVariants as step
 
 -- does this requester draw the number of the key?
 abbrev pub is_drawn : Address → Option ℕ → Key → Bool
@@ -29,7 +29,7 @@ is_drawn_after A n (Some s) key = is_drawn s.to (number_after A n s) key
 -- does a happening draw the number of this key?
 abbrev pub draws : (A : Type 0) → Network → Happening → Key → Bool
 draws A n (Begins who to user bytes wanted xo times) key = is_drawn who (next_number (n.requesters who)) key
-draws A n (Turns which user times) key = is_drawn_after A n (ending A n (packet_at n.sent which)) key
+draws A n (Turns datagram user times) key = is_drawn_after A n (ending A n (packet_at n.sent datagram)) key
 draws A n h key = false
 
 -- does a packet that comes deliver this request to the service?
@@ -38,8 +38,8 @@ brings n key None = false
 brings n key (Some s) = hands_up key (n.responders s.to) (Comes s.from s.packet)
 
 abbrev pub is_handed_up : Network → Happening → Key → Bool
-is_handed_up n (Takes which) key = brings n key (packet_at n.sent which)
-is_handed_up n (Serves which packets) key = brings n key (packet_at n.sent which)
+is_handed_up n (Takes datagram) key = brings n key (packet_at n.sent datagram)
+is_handed_up n (Serves datagram packets) key = brings n key (packet_at n.sent datagram)
 is_handed_up n h key = false
 
 -- how often a request was delivered to a service, anywhere, since its number was last drawn
@@ -66,13 +66,13 @@ has_expired A (h ∷ hs) at key =
 
 -- if a request comes, no record of its key expired since its number was drawn
 abbrev pub ComesInLife : (A : Type 0) → List Happening → ℕ → Type 0
-ComesInLife A hs which = (s : Sent) (mask : ℕ) (xo : Bool) (timer tid : ℕ) (user bytes : List ℕ)
-    → packet_at (after A hs).sent which ≡ Some s → s.packet ≡ Request mask xo timer tid user bytes
+ComesInLife A hs datagram = (s : Sent) (mask : ℕ) (xo : Bool) (timer tid : ℕ) (user bytes : List ℕ)
+    → packet_at (after A hs).sent datagram ≡ Some s → s.packet ≡ Request mask xo timer tid user bytes
     → has_expired A hs s.to (record { from = s.from; tid = tid }) ≡ false
 
 abbrev pub Lives : (A : Type 0) → List Happening → Happening → Type 0
-Lives A hs (Takes which) = ComesInLife A hs which
-Lives A hs (Serves which packets) = ComesInLife A hs which
+Lives A hs (Takes datagram) = ComesInLife A hs datagram
+Lives A hs (Serves datagram packets) = ComesInLife A hs datagram
 Lives A hs h = Unit {0}
 
 -- After a record expired, no request of its key comes to its responder before the number is drawn again.
@@ -91,7 +91,7 @@ pub record AnswersOnce (A : Type 0) (history : List Happening) : Type 0 where
       × (length t.answers ≤ hand_ups_since A history (record { from = who; tid = tid }))
   -- If a packet in time ends the transaction, it was delivered once and answered once. The response is that answer, or
   -- as many of its first packets as were asked for.
-  pub finished : (which : ℕ) (s : Sent) (packets : List Packet) → packet_at (after A history).sent which ≡ Some s
+  pub finished : (datagram : ℕ) (s : Sent) (packets : List Packet) → packet_at (after A history).sent datagram ≡ Some s
       → is_fresh (after A history).drawn s ≡ true
       → (heard {A = A} ((after A history).requesters s.to) s.from s.packet).step ≡ step.Finished packets
       → (a : Asked (after A history).asked s.to (number_of s.packet) s.from) → a.transaction.xo ≡ true

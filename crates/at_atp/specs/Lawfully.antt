@@ -18,8 +18,8 @@ pub record IsAsking (who to : Address) (user bytes : List ℕ) (wanted : ℕ) : 
 abbrev pub IsInRange : Happening → Type 0
 IsInRange (Begins who to user bytes wanted xo times) = IsAsking who to user bytes wanted
 IsInRange (Answers at key packets) = IsAddress at × AllByRecursion IsPacket packets
-IsInRange (Turns which user times) = IsPacket (record { user = user; data_ = [] })
-IsInRange (Serves which packets) = AllByRecursion IsPacket packets
+IsInRange (Turns datagram user times) = IsPacket (record { user = user; data_ = [] })
+IsInRange (Serves datagram packets) = AllByRecursion IsPacket packets
 IsInRange (Retries who tid) = IsAddress who
 IsInRange other = Unit {0}
 

@@ -8,7 +8,8 @@ use Rattle.at_ddp.specs.Posts.{Post, Posts, packet_at, put, stamped}
 use Rattle.at_ddp.specs.declared.address.Address.{Address}
 use Rattle.at_atp_frame.specs.Frames.{Content, Request, Response, Release, owner, number_of}
 use Rattle.at_atp_frame.specs.Packets.{Packet}
-use Rattle.at_atp_responder.specs.Records.{Record, is_key, taken, answer_fault, asked_for, after_answer, expiry_fault}
+use Rattle.at_atp_responder.specs.Records.{Record, is_key, received, answer_fault, asked_for, after_answer}
+use Rattle.at_atp_responder.specs.Records.{expiry_fault}
 use Rattle.at_atp_requester.specs.Requests as requests
 use Rattle.at_atp_requester.specs.Requests.{Requests, Retried, no_requests, next_number, beginning, request_by, heard}
 use Rattle.at_atp_requester.specs.Requests.{is_numbered, retried, finishes}
@@ -18,7 +19,7 @@ use Rattle.at_atp_frame.specs.declared.fault.AtpFault.{AtpFault}
 use Rattle.at_atp_responder.specs.declared.reception.Key.{Key}
 use Rattle.at_atp_responder.specs.declared.reception.Reception.{Reception}
 use Rattle.at_atp_responder.specs.declared.reception.Reception.TheVariants as reception
-use Rattle.at_atp_requester.specs.declared.step.Step.TheVariants as step
+use Rattle.at_atp_requester.specs.declared.progress.RequestProgress.TheVariants as step
 
 -- a packet that was sent, with the event that sent it
 abbrev pub Sent : Type 0
@@ -64,14 +65,14 @@ pub data Happening : Type 0 where
   -- the request of a record is answered
   Answers : (at : Address) (key : Key) (packets : List Packet) → Happening
   -- a packet comes to the requester at the address that it was sent to
-  Hears : (which : ℕ) → Happening
+  Hears : (datagram : ℕ) → Happening
   -- a packet comes that ends an at-least-once transaction, and the requester asks the same responder for one packet
   -- more, at least once
-  Turns : (which : ℕ) (user : List ℕ) (retries : ℕ) → Happening
+  Turns : (datagram : ℕ) (user : List ℕ) (retries : ℕ) → Happening
   -- a packet comes to the responder at the address that it was sent to
-  Takes : (which : ℕ) → Happening
+  Takes : (datagram : ℕ) → Happening
   -- the same, and if the request is new there, it is answered at once
-  Serves : (which : ℕ) (packets : List Packet) → Happening
+  Serves : (datagram : ℕ) (packets : List Packet) → Happening
   -- the release timer of a record fires
   Expires : (at : Address) (key : Key) → Happening
   -- a transaction is retried
@@ -150,8 +151,8 @@ turns A n user retries (Some s) =
 abbrev pub takes : Network → Sent → Network
 takes n s =
     with_responder n s.to
-    (taken (n.responders s.to) s.from s.packet).after
-    (taken (n.responders s.to) s.from s.packet).sent
+    (received (n.responders s.to) s.from s.packet).after
+    (received (n.responders s.to) s.from s.packet).sent
 
 abbrev pub takes_in : Network → Option Sent → Network
 takes_in n None = n
@@ -164,7 +165,7 @@ handed_up n at packets other = n
 
 abbrev pub serves : Network → List Packet → Option Sent → Network
 serves n packets None = n
-serves n packets (Some s) = handed_up (takes n s) s.to packets (taken (n.responders s.to) s.from s.packet).reception
+serves n packets (Some s) = handed_up (takes n s) s.to packets (received (n.responders s.to) s.from s.packet).reception
 
 -- a record that can expire is removed, and nothing is sent
 abbrev pub expires : Network → Address → Key → Option AtpFault → Network
@@ -179,10 +180,10 @@ abbrev pub done : (A : Type 0) → Network → Happening → Network
 done A n (Begins who to user bytes wanted xo times) =
     begins n who to user bytes wanted xo times (next_number (n.requesters who))
 done A n (Answers at key packets) = gives n at key packets
-done A n (Hears which) = hears A n (packet_at n.sent which)
-done A n (Turns which user times) = turns A n user times (ending A n (packet_at n.sent which))
-done A n (Takes which) = takes_in n (packet_at n.sent which)
-done A n (Serves which packets) = serves n packets (packet_at n.sent which)
+done A n (Hears datagram) = hears A n (packet_at n.sent datagram)
+done A n (Turns datagram user times) = turns A n user times (ending A n (packet_at n.sent datagram))
+done A n (Takes datagram) = takes_in n (packet_at n.sent datagram)
+done A n (Serves datagram packets) = serves n packets (packet_at n.sent datagram)
 done A n (Expires at key) = expires n at key (expiry_fault (find (is_key key) (n.responders at)))
 done A n (Retries who tid) = retries n who (retried (n.requesters who) tid)
 done A n (Other count) = record n { sent = n.sent ++ replicate count None }
@@ -199,18 +200,18 @@ after A (h ∷ hs) = tick (done A (after A hs) h)
 -- ---- histories in which no packet outlives its number
 
 abbrev pub ComesInTime : Network → ℕ → Type 0
-ComesInTime n which = (s : Sent) → packet_at n.sent which ≡ Some s → is_fresh n.drawn s ≡ true
+ComesInTime n datagram = (s : Sent) → packet_at n.sent datagram ≡ Some s → is_fresh n.drawn s ≡ true
 
 -- each packet comes before its number is drawn again, and no number is drawn while a record is held under it
 abbrev pub IsTimely : (A : Type 0) → Network → Happening → Type 0
 IsTimely A n (Begins who to user bytes wanted xo times) =
     (tid : ℕ) → next_number (n.requesters who) ≡ Some tid → NoneHolds n.responders who tid
-IsTimely A n (Hears which) = ComesInTime n which
-IsTimely A n (Turns which user times) = ComesInTime n which
-    × ((s : Sent) (tid : ℕ) → ending A n (packet_at n.sent which) ≡ Some s → number_after A n s ≡ Some tid
+IsTimely A n (Hears datagram) = ComesInTime n datagram
+IsTimely A n (Turns datagram user times) = ComesInTime n datagram
+    × ((s : Sent) (tid : ℕ) → ending A n (packet_at n.sent datagram) ≡ Some s → number_after A n s ≡ Some tid
     → NoneHolds n.responders s.to tid)
-IsTimely A n (Takes which) = ComesInTime n which
-IsTimely A n (Serves which packets) = ComesInTime n which
+IsTimely A n (Takes datagram) = ComesInTime n datagram
+IsTimely A n (Serves datagram packets) = ComesInTime n datagram
 IsTimely A n other = Unit {0}
 
 abbrev pub AllTimely : (A : Type 0) → List Happening → Type 0
@@ -222,23 +223,23 @@ AllTimely A (h ∷ hs) = IsTimely A (after A hs) h × AllTimely A hs
 pub record GivesAnswers (A : Type 0) (n : Network) : Type 0 where
   -- what a packet in time finishes is a response to the newest transaction of its number, of answers given at the
   -- address that it asked
-  pub finished : (which : ℕ) (s : Sent) (packets : List Packet) → packet_at n.sent which ≡ Some s
+  pub finished : (datagram : ℕ) (s : Sent) (packets : List Packet) → packet_at n.sent datagram ≡ Some s
       → is_fresh n.drawn s ≡ true
       → (heard {A = A} (n.requesters s.to) s.from s.packet).step ≡ step.Finished packets
       → (a : Asked n.asked s.to (number_of s.packet) s.from) × IsResponse a.transaction packets
   -- a request in time belongs to the newest transaction of its number, and was sent to the responder that it asked
-  pub requested : (which : ℕ) (s : Sent) (mask : ℕ) (xo : Bool) (timer tid : ℕ) (user bytes : List ℕ)
-      → packet_at n.sent which ≡ Some s → is_fresh n.drawn s ≡ true
+  pub requested : (datagram : ℕ) (s : Sent) (mask : ℕ) (xo : Bool) (timer tid : ℕ) (user bytes : List ℕ)
+      → packet_at n.sent datagram ≡ Some s → is_fresh n.drawn s ≡ true
       → s.packet ≡ Request mask xo timer tid user bytes → (a : Asked n.asked s.from tid s.to)
       × (a.transaction.user ≡ user) × (a.transaction.data_ ≡ bytes) × (a.transaction.xo ≡ xo)
   -- a response in time is for the newest transaction of its number: a packet of an answer given at the address that it
   -- asked
-  pub responded : (which : ℕ) (s : Sent) (place : ℕ) (eom sts : Bool) (tid : ℕ) (user bytes : List ℕ)
-      → packet_at n.sent which ≡ Some s → is_fresh n.drawn s ≡ true
+  pub responded : (datagram : ℕ) (s : Sent) (place : ℕ) (eom sts : Bool) (tid : ℕ) (user bytes : List ℕ)
+      → packet_at n.sent datagram ≡ Some s → is_fresh n.drawn s ≡ true
       → s.packet ≡ Response place eom sts tid user bytes → (a : Asked n.asked s.to tid s.from)
       × IsPart a.transaction place eom (record { user = user; data_ = bytes })
   -- a release in time belongs to the newest transaction of its number, and was sent to the responder that it asked
-  pub released : (which : ℕ) (s : Sent) (tid : ℕ) → packet_at n.sent which ≡ Some s → is_fresh n.drawn s ≡ true
+  pub released : (datagram : ℕ) (s : Sent) (tid : ℕ) → packet_at n.sent datagram ≡ Some s → is_fresh n.drawn s ≡ true
       → s.packet ≡ Release tid → Asked n.asked s.from tid s.to
   -- a record belongs to the newest transaction of its number
   pub recorded : (at : Address) (key : Key) (r : Record) → find (is_key key) (n.responders at) ≡ Some r

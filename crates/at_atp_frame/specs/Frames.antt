@@ -13,7 +13,7 @@ pub data Content : Type 0 where
   -- asks for the packets whose bits are set in the mask; `xo` means exactly-once
   Request : (mask : ℕ) (xo : Bool) (timer tid : ℕ) (user bytes : List ℕ) → Content
   -- one packet of an answer: its place, end of message, and send transaction status
-  Response : (place : ℕ) (eom sts : Bool) (tid : ℕ) (user bytes : List ℕ) → Content
+  Response : (sequence_number : ℕ) (eom sts : Bool) (tid : ℕ) (user bytes : List ℕ) → Content
   Release : (tid : ℕ) → Content
 
 abbrev pub content : Frame → Content

@@ -18,7 +18,7 @@
 //! | 2 to 0 | `0x07` | release timer | free | free |
 //!
 //! Free bits are written as 0, and read as anything. The data follows the header.
-ghost use Rattle.std.specs.Prelude.{◌≡◌, ◌≢◌, ◌+◌, ◌<◌, ◌≤◌, ◌++◌, ◌↔◌, true, false, if◌then◌else◌, List, ℕ, length};
+ghost use Rattle.std.specs.Prelude.{◌≡◌, ◌≢◌, ◌+◌, ◌<◌, ◌≤◌, ◌++◌, ◌↔◌, length};
 ghost use Rattle.std.specs.Prelude.{IfOk, IfErr, OnOk, OnErr, IsOkAnd, IsErrOf, slice_range, vec_len, vec_capacity};
 ghost use Rattle.at_atp_frame.specs.Fault.{IsFirstFault};
 ghost use Rattle.at_atp_frame.specs.Frames.{Content, content, Spells, CanBeWritten, data_of, spelled, read_timer};
@@ -78,7 +78,7 @@ pub enum Frame<'a> {
     /// One packet of an answer.
     Response {
         /// The place of the packet in the answer, 0 to 7.
-        place: u8,
+        sequence_number: u8,
         /// Whether this is the last packet of the answer (EOM).
         eom: bool,
         /// Whether the requester is to ask again for what it still lacks (STS).
@@ -152,7 +152,7 @@ fn response_in(input: &[u8]) -> Frame<'_>
     ensures { content result ≡ response_of input.now }
 {
     Frame::Response {
-        place: input[1],
+        sequence_number: input[1],
         eom: input[0] & EOM != 0,
         sts: input[0] & STS != 0,
         tid: BigEndian::read_u16(&input[2..]),
@@ -221,7 +221,7 @@ pub(crate) fn header_of(frame: &Frame<'_>) -> [u8; HEADER_LEN]
             ..
         } => header(REQUEST + XO * u8::from(*xo) + *timer, *mask, *tid, *user),
         Frame::Response {
-            place,
+            sequence_number,
             eom,
             sts,
             tid,
@@ -229,7 +229,7 @@ pub(crate) fn header_of(frame: &Frame<'_>) -> [u8; HEADER_LEN]
             ..
         } => header(
             RESPONSE + EOM * u8::from(*eom) + STS * u8::from(*sts),
-            *place,
+            *sequence_number,
             *tid,
             *user,
         ),

@@ -5,9 +5,9 @@ use Rattle.std.specs.Prelude.{is_some, option_map}
 use Rattle.std.proofs.lemmas.List.{append-nil}
 use Rattle.std.proofs.lemmas.Bool.{false≢true}
 use Rattle.at_atp_frame.specs.Packets.{Packet}
-use Rattle.at_atp_requester.specs.Answers.{Arrival, is_wanted, whole, with_part, gathered}
+use Rattle.at_atp_requester.specs.Answers.{AnswerPart, is_wanted, whole, with_part, gathered}
 
-pub wanted-within : (parts : List (Option Arrival)) (place : ℕ) → is_wanted parts place ≡ true → place < length parts
+pub wanted-within : (parts : List (Option AnswerPart)) (place : ℕ) → is_wanted parts place ≡ true → place < length parts
 wanted-within [] place h = absurd (false≢true h)
 wanted-within (p ∷ parts) zero h = omega arith
 wanted-within (None ∷ parts) (suc i) h = omega (arith, wanted-within parts i h)
@@ -23,7 +23,8 @@ is_some-map f None = refl
 is_some-map f (Some x) = refl
 
 -- past a packet that does not end the answer, the rest decides
-pub whole_past : (parts : List (Option Arrival)) (place : ℕ) (p part : Arrival) (d : Option Arrival) → 0 < length parts
+pub whole_past : (parts : List (Option AnswerPart)) (place : ℕ) (p part : AnswerPart) (d : Option AnswerPart)
+    → 0 < length parts
     → d ≡ get_or parts 0 d → d ≡ Some p → p.eom ≡ false → (place ≡ 0 → ⊥) →
     is_some (whole (with_part parts place part)) ≡ is_some (whole (with_part (drop 1 parts) (place - 1) part))
 whole_past [] place p part d some is is_some go_on far = absurd (omega arith)
@@ -35,7 +36,7 @@ whole_past (x ∷ parts) (suc i) p part d some is first go_on far =
     rw (here, go_on, less) rest
 
 -- once the answer is there, what is gathered is the answer
-pub gathered-whole : (done : List Packet) (parts : List (Option Arrival)) (packets : List Packet) → whole parts
+pub gathered-whole : (done : List Packet) (parts : List (Option AnswerPart)) (packets : List Packet) → whole parts
     ≡ Some packets → gathered done parts ≡ done ++ packets
 gathered-whole done [] packets h = let none : [] ≡ packets = cc in sym (append-nil done) ∙ ap (λ l. done ++ l) none
 gathered-whole done (None ∷ parts) packets h = absurd (cc)

@@ -6,7 +6,7 @@ use Rattle.std.proofs.lemmas.Bool.{true≢false, eq-eqb, eqb-true, ne_eqb, and_p
 use Rattle.std.proofs.lemmas.List.{append_assoc}
 use Rattle.at_ddp.specs.Address.{same_address}
 use Rattle.at_ddp.specs.declared.address.Address.{Address}
-use Rattle.at_atp_requester.specs.Answers.{Arrival, is_wanted, whole, with_part}
+use Rattle.at_atp_requester.specs.Answers.{AnswerPart, is_wanted, whole, with_part}
 use Rattle.at_atp_frame.specs.Packets.{Packet}
 use Rattle.at_atp_requester.specs.Requests.{Transaction, Requests, Effect, is_of, is_numbered, has_number, next_number}
 use Rattle.at_atp_requester.specs.Requests.{beginning, came, came_for, was_kept, is_finished, settled, response_came}
@@ -18,7 +18,7 @@ use Rattle.at_atp_requester.proofs.OpenLemmas.{Around, OfNumber, both_apart, con
 use Rattle.at_atp_requester.proofs.OpenLemmas.{other_gone, find_it, replaced_it, gone_it, drawn_free}
 
 -- the one transaction of a number is open, asked this address, and has these parts
-pub record Open (r : Requests) (tid : ℕ) (to : Address) (parts : List (Option Arrival)) : Type 0 where
+pub record Open (r : Requests) (tid : ℕ) (to : Address) (parts : List (Option AnswerPart)) : Type 0 where
   pub transaction : Transaction
   pub around : Around r.standing tid transaction
   pub number : transaction.tid ≡ tid
@@ -26,17 +26,17 @@ pub record Open (r : Requests) (tid : ℕ) (to : Address) (parts : List (Option 
   pub has : transaction.parts ≡ parts
 
 -- the parts once a packet came
-abbrev pub with_came : List (Option Arrival) → Came → List (Option Arrival)
+abbrev pub with_came : List (Option AnswerPart) → Came → List (Option AnswerPart)
 with_came parts c = cond (is_wanted parts c.place) (with_part parts c.place c.part) parts
 
-abbrev pub with_all : List (Option Arrival) → List Came → List (Option Arrival)
+abbrev pub with_all : List (Option AnswerPart) → List Came → List (Option AnswerPart)
 with_all parts [] = parts
 with_all parts (c ∷ all) = with_all (with_came parts c) all
 
 -- ---- a packet keeps number and address
 
 module _ (A : Type 0) where
-  pub kept_tid : (t : Transaction) (place : ℕ) (part : Arrival) (sts : Bool)
+  pub kept_tid : (t : Transaction) (place : ℕ) (part : AnswerPart) (sts : Bool)
       → (came {A = A} t place part sts).after.tid ≡ t.tid
   kept_tid t place part sts = go (is_wanted t.parts place) sts
     where
@@ -51,7 +51,7 @@ module _ (A : Type 0) where
       go false true = refl
       go false false = refl
 
-  kept_to : (t : Transaction) (place : ℕ) (part : Arrival) (sts : Bool) → (came {A = A} t place part sts).after.to
+  kept_to : (t : Transaction) (place : ℕ) (part : AnswerPart) (sts : Bool) → (came {A = A} t place part sts).after.to
       ≡ t.to
   kept_to t place part sts = go (is_wanted t.parts place) sts
     where
@@ -97,12 +97,12 @@ module _ (A : Type 0) where
 
   -- ---- open, and open again
 
-  still : (r r' : Requests) (tid : ℕ) (to : Address) (parts : List (Option Arrival)) → (o : Open r tid to parts)
+  still : (r r' : Requests) (tid : ℕ) (to : Address) (parts : List (Option AnswerPart)) → (o : Open r tid to parts)
       → Around r'.standing tid o.transaction → Open r' tid to parts
   still r r' tid to parts o around =
       record { transaction = o.transaction; around = around; number = o.number; asked = o.asked; has = o.has }
 
-  pub begins : (r : Requests) (tid : ℕ) (to : Address) (parts : List (Option Arrival)) (at : Address)
+  pub begins : (r : Requests) (tid : ℕ) (to : Address) (parts : List (Option AnswerPart)) (at : Address)
       (user bytes : List ℕ) (wanted : ℕ) (xo : Bool) (retries : ℕ) (drawn : Option ℕ) → next_number r ≡ drawn
       → Open r tid to parts →
       Open (begun_under r (Begins at user bytes wanted xo retries) drawn) tid to parts
@@ -125,7 +125,8 @@ module _ (A : Type 0) where
       })
 
   -- something done to the transaction of another number
-  replaces : (r r' : Requests) (tid other : ℕ) (to : Address) (parts : List (Option Arrival)) (p : Transaction → Bool)
+  replaces : (r r' : Requests) (tid other : ℕ) (to : Address) (parts : List (Option AnswerPart)) (p : Transaction
+      → Bool)
       (y : Transaction) → ((x : Transaction) → p x ≡ true → x.tid ≡ other) → (tid == other) ≡ false → y.tid ≡ other →
       r'.standing ≡ replaced p y r.standing → Open r tid to parts → Open r' tid to parts
   replaces r r' tid other to parts p y of apart number is o =
@@ -135,7 +136,7 @@ module _ (A : Type 0) where
       (apart_by y tid other apart number) a.none_before a.none_behind in
       still r r' tid to parts o (subst (λ l. Around l tid t) (sym (is ∙ ap (replaced p y) a.is)) moved_on)
 
-  closes : (r r' : Requests) (tid other : ℕ) (to : Address) (parts : List (Option Arrival)) (p : Transaction → Bool)
+  closes : (r r' : Requests) (tid other : ℕ) (to : Address) (parts : List (Option AnswerPart)) (p : Transaction → Bool)
       → ((x : Transaction) → p x ≡ true → x.tid ≡ other) → (tid == other) ≡ false →
       r'.standing ≡ without_first p r.standing → Open r tid to parts → Open r' tid to parts
   closes r r' tid other to parts p of apart is o =
@@ -147,7 +148,7 @@ module _ (A : Type 0) where
 
   -- ---- retries
 
-  pub retry_of_other : (r : Requests) (tid other : ℕ) (to : Address) (parts : List (Option Arrival))
+  pub retry_of_other : (r : Requests) (tid other : ℕ) (to : Address) (parts : List (Option AnswerPart))
       (u : Option Transaction) → find (is_numbered other) r.standing ≡ u → (tid == other) ≡ false
       → Open r tid to parts →
       Open (after_retry r (option_map (λ t. retried_with r other t t.retries) u)) tid to parts
@@ -165,7 +166,7 @@ module _ (A : Type 0) where
   of_number tid x h = h
 
   -- a transaction that was closed is not open
-  not_closed : (r r' : Requests) (tid : ℕ) (to : Address) (parts : List (Option Arrival)) (p : Transaction → Bool)
+  not_closed : (r r' : Requests) (tid : ℕ) (to : Address) (parts : List (Option AnswerPart)) (p : Transaction → Bool)
       (o : Open r tid to parts) → OfNumber p tid → p o.transaction ≡ true → r'.standing ≡ without_first p r.standing
       → has_number r'.standing tid ≡ true → ⊥
   not_closed r r' tid to parts p o of passes is open_ =
@@ -176,8 +177,8 @@ module _ (A : Type 0) where
       ∙ both_apart a.before a.behind tid a.none_before a.none_behind)
 
   -- another transaction in its place
-  becomes : (r r' : Requests) (tid : ℕ) (to : Address) (parts : List (Option Arrival)) (p : Transaction → Bool)
-      (o : Open r tid to parts) (y : Transaction) (parts' : List (Option Arrival)) → OfNumber p tid → p o.transaction
+  becomes : (r r' : Requests) (tid : ℕ) (to : Address) (parts : List (Option AnswerPart)) (p : Transaction → Bool)
+      (o : Open r tid to parts) (y : Transaction) (parts' : List (Option AnswerPart)) → OfNumber p tid → p o.transaction
       ≡ true →
       r'.standing ≡ replaced p y r.standing → y.tid ≡ o.transaction.tid → y.to ≡ o.transaction.to → y.parts ≡ parts'
       → Open r' tid to parts'
@@ -198,7 +199,7 @@ module _ (A : Type 0) where
         has = has;
       }
 
-  pub found_by_number : (r : Requests) (tid : ℕ) (to : Address) (parts : List (Option Arrival))
+  pub found_by_number : (r : Requests) (tid : ℕ) (to : Address) (parts : List (Option AnswerPart))
       (o : Open r tid to parts) → find (is_numbered tid) r.standing ≡ Some o.transaction
   found_by_number r tid to parts o =
       let a = o.around in
@@ -206,7 +207,7 @@ module _ (A : Type 0) where
       ∙ find_it (is_numbered tid) a.before a.behind o.transaction tid (of_number tid) a.none_before a.none_behind
       ∙ ap (λ b. cond b (Some o.transaction) None) (eq-eqb o.transaction.tid tid o.number)
 
-  pub retry_of_it : (r : Requests) (tid : ℕ) (to : Address) (parts : List (Option Arrival)) (o : Open r tid to parts)
+  pub retry_of_it : (r : Requests) (tid : ℕ) (to : Address) (parts : List (Option AnswerPart)) (o : Open r tid to parts)
       → has_number (after_retry r (retried r tid)).standing tid ≡ true
       → Open (after_retry r (retried r tid)) tid to parts
   retry_of_it r tid to parts o open_ =
@@ -231,8 +232,9 @@ module _ (A : Type 0) where
   of_asked : (tid : ℕ) (from : Address) → OfNumber (is_of tid from) tid
   of_asked tid from x h = rw h refl
 
-  pub heard_of_other : (r : Requests) (tid other : ℕ) (to from : Address) (parts : List (Option Arrival)) (place : ℕ)
-      (part : Arrival) (sts : Bool) (u : Option Transaction) → find (is_of other from) r.standing ≡ u → (tid == other)
+  pub heard_of_other : (r : Requests) (tid other : ℕ) (to from : Address) (parts : List (Option AnswerPart)) (place : ℕ)
+      (part : AnswerPart) (sts : Bool) (u : Option Transaction) → find (is_of other from) r.standing ≡ u
+      → (tid == other)
       ≡ false → Open r tid to parts →
       Open (response_came {A = A} r (is_of other from) place part sts u).after tid to parts
   heard_of_other r tid other to from parts place part sts None is apart o = o
@@ -254,7 +256,7 @@ module _ (A : Type 0) where
           (ap (λ b. cond b (without_first (is_of other from) r.standing)
           (replaced (is_of other from) e.after r.standing)) f) o
 
-  pub found_by_asked : (r : Requests) (tid : ℕ) (to from : Address) (parts : List (Option Arrival))
+  pub found_by_asked : (r : Requests) (tid : ℕ) (to from : Address) (parts : List (Option AnswerPart))
       (o : Open r tid to parts) (b : Bool) → same_address o.transaction.to from ≡ b → find (is_of tid from) r.standing
       ≡ cond b (Some o.transaction) None
   found_by_asked r tid to from parts o b same =
@@ -264,7 +266,7 @@ module _ (A : Type 0) where
       ∙ ap (λ c. cond (c && same_address o.transaction.to from) (Some o.transaction) None)
       (eq-eqb o.transaction.tid tid o.number) ∙ ap (λ c. cond c (Some o.transaction) None) same
 
-  pub heard_of_it : (r : Requests) (tid : ℕ) (to from : Address) (parts : List (Option Arrival)) (c : Came)
+  pub heard_of_it : (r : Requests) (tid : ℕ) (to from : Address) (parts : List (Option AnswerPart)) (c : Came)
       (o : Open r tid to parts) → same_address o.transaction.to from ≡ true →
       has_number (settled {A = A} r (is_of tid from) (came o.transaction c.place c.part c.sts)).after.standing tid
       ≡ true → Open (settled {A = A} r (is_of tid from) (came o.transaction c.place c.part c.sts)).after tid to

@@ -7,7 +7,7 @@ use Rattle.at_atp_requester.specs.Answers.{is_wanted, bitmap_of, whole, with_par
 use Rattle.at_atp_frame.specs.Packets.{Packet}
 use Rattle.at_atp_requester.specs.Requests.{Transaction, came, came_for, was_kept, is_finished}
 use Rattle.at_atp_requester.specs.Wholes.{Came, firsts_from, firsts, after_all, NoneFinishes}
-use Rattle.at_atp_requester.specs.declared.step.Step.TheVariants.{Finished}
+use Rattle.at_atp_requester.specs.declared.progress.RequestProgress.TheVariants.{Finished}
 use Rattle.at_atp_requester.proofs.WholeLemmas.{Agree, step_wanted, step_unwanted, same_whole, same_bitmap}
 
 pub none_came : (n place : ℕ) → Agree (replicate n None) (firsts_from place n [])

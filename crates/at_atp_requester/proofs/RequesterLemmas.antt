@@ -7,26 +7,26 @@ use Rattle.std.proofs.lemmas.List.{append-nil, append_assoc}
 use Rattle.at_ddp.specs.Address.{same_address}
 use Rattle.at_ddp.specs.declared.address.Address.{Address}
 use Rattle.at_atp_requester.proofs.OneTransaction.{none_came}
-use Rattle.at_atp_requester.specs.Answers.{Arrival, is_wanted, bitmap_of, whole, with_part}
+use Rattle.at_atp_requester.specs.Answers.{AnswerPart, is_wanted, bitmap_of, whole, with_part}
 use Rattle.at_atp_frame.specs.Frames.{Request, Response, Release}
 use Rattle.at_atp_frame.specs.Packets.{Packet}
 use Rattle.at_atp_requester.specs.Requests.{Transaction, Requests, is_of, is_numbered, has_number, next_number}
 use Rattle.at_atp_requester.specs.Requests.{beginning, begun, came, came_for, was_kept, response_came, heard, retried}
 use Rattle.at_atp_requester.specs.Wholes.{Came, firsts, Move, Begins, Hears, Retries, after_retry, moved, moved_all}
 use Rattle.at_atp_requester.specs.Wholes.{StaysOpen, brought, arrived}
-use Rattle.at_atp_requester.specs.declared.step.Step.TheVariants.{Finished}
+use Rattle.at_atp_requester.specs.declared.progress.RequestProgress.TheVariants.{Finished}
 use Rattle.at_atp_requester.proofs.MoveLemmas.{Open, with_came, with_all, begins, retry_of_other, retry_of_it}
 use Rattle.at_atp_requester.proofs.MoveLemmas.{heard_of_other, heard_of_it, found_by_asked, found_by_number}
 use Rattle.at_atp_requester.proofs.OpenLemmas.{drawn_free}
 use Rattle.at_atp_requester.proofs.WholeLemmas.{Agree, step_wanted, step_unwanted, same_whole, same_bitmap}
 
-with_both : (parts : List (Option Arrival)) (xs ys : List Came) → with_all parts (xs ++ ys)
+with_both : (parts : List (Option AnswerPart)) (xs ys : List Came) → with_all parts (xs ++ ys)
     ≡ with_all (with_all parts xs) ys
 with_both parts [] ys = refl
 with_both parts (x ∷ xs) ys = with_both (with_came parts x) xs ys
 
 -- what was kept agrees with what came first
-agree_more : (parts : List (Option Arrival)) (wanted : ℕ) (seen : List Came) (c : Came)
+agree_more : (parts : List (Option AnswerPart)) (wanted : ℕ) (seen : List Came) (c : Came)
     → Agree parts (firsts wanted seen) → Agree (with_came parts c) (firsts wanted (seen ++ c ∷ []))
 agree_more parts wanted seen c h = go (is_wanted parts c.place) refl
   where
@@ -35,7 +35,7 @@ agree_more parts wanted seen c h = go (is_wanted parts c.place) refl
     go true e = step_wanted parts wanted 0 c.place seen c (omega arith) h e
     go false e = step_unwanted parts wanted 0 c.place seen c (omega arith) h e
 
-agree_from : (parts : List (Option Arrival)) (wanted : ℕ) (seen all : List Came) → Agree parts (firsts wanted seen)
+agree_from : (parts : List (Option AnswerPart)) (wanted : ℕ) (seen all : List Came) → Agree parts (firsts wanted seen)
     → Agree (with_all parts all) (firsts wanted (seen ++ all))
 agree_from parts wanted seen [] h = subst (λ l. Agree parts (firsts wanted l)) (sym (append-nil seen)) h
 agree_from parts wanted seen (c ∷ all) h =
@@ -48,12 +48,8 @@ agree_all wanted all = agree_from (replicate wanted None) wanted [] all (none_ca
 -- ---- one move
 
 module _ (A : Type 0) where
-  same_open : (r r' : Requests) (tid : ℕ) (to : Address) (ps qs : List (Option Arrival)) → r ≡ r' → ps ≡ qs
-      → Open r tid to ps → Open r' tid to qs
-  same_open r r' tid to ps qs e f o = subst (λ x. Open x tid to qs) e (subst (Open r tid to) f o)
-
   -- a response under the transaction's own number
-  heard_own : (r : Requests) (tid : ℕ) (to from : Address) (parts : List (Option Arrival)) (c : Came)
+  heard_own : (r : Requests) (tid : ℕ) (to from : Address) (parts : List (Option AnswerPart)) (c : Came)
       (o : Open r tid to parts) → (b : Bool) → same_address to from ≡ b → (u : Option Transaction)
       → find (is_of tid from) r.standing ≡ u → u ≡ cond b (Some o.transaction) None →
       has_number (response_came {A = A} r (is_of tid from) c.place c.part c.sts u).after.standing tid ≡ true →
@@ -71,12 +67,13 @@ module _ (A : Type 0) where
       (subst (λ x. has_number (response_came {A = A} r (is_of tid from) c.place c.part c.sts
       (Some x)).after.standing tid ≡ true) its open_))
 
-  which_found : (r : Requests) (tid : ℕ) (to from : Address) (parts : List (Option Arrival)) (o : Open r tid to parts)
+  which_found : (r : Requests) (tid : ℕ) (to from : Address) (parts : List (Option AnswerPart))
+      (o : Open r tid to parts)
       (b : Bool) → same_address to from ≡ b → find (is_of tid from) r.standing ≡ cond b (Some o.transaction) None
   which_found r tid to from parts o b same =
       found_by_asked A r tid to from parts o b (ap (λ a. same_address a from) o.asked ∙ same)
 
-  hears : (r : Requests) (tid : ℕ) (to from : Address) (parts : List (Option Arrival)) (place : ℕ) (eom sts : Bool)
+  hears : (r : Requests) (tid : ℕ) (to from : Address) (parts : List (Option AnswerPart)) (place : ℕ) (eom sts : Bool)
       (other : ℕ) (user bytes : List ℕ) → (b : Bool) → (tid == other) ≡ b → Open r tid to parts →
       has_number (heard {A = A} r from (Response place eom sts other user bytes)).after.standing tid ≡ true
       → Open (heard {A = A} r from (Response place eom sts other user bytes)).after tid to
@@ -102,7 +99,8 @@ module _ (A : Type 0) where
       (which_found r tid to from parts o (same_address to from) refl) h))
       open_
 
-  retries : (r : Requests) (tid other : ℕ) (to : Address) (parts : List (Option Arrival)) → (b : Bool) → (tid == other)
+  retries : (r : Requests) (tid other : ℕ) (to : Address) (parts : List (Option AnswerPart)) → (b : Bool)
+      → (tid == other)
       ≡ b → Open r tid to parts → has_number (after_retry r (retried r other)).standing tid ≡ true
       → Open (after_retry r (retried r other)) tid to parts
   retries r tid other to parts false e o open_ =
@@ -112,7 +110,7 @@ module _ (A : Type 0) where
       → Open (after_retry r (retried r k)) tid to parts) (eqb-true tid other e)
       (λ h. retry_of_it A r tid to parts o h) open_
 
-  one_move : (r : Requests) (tid : ℕ) (to : Address) (parts : List (Option Arrival)) (m : Move) → Open r tid to parts
+  one_move : (r : Requests) (tid : ℕ) (to : Address) (parts : List (Option AnswerPart)) (m : Move) → Open r tid to parts
       → has_number (moved A r m).standing tid ≡ true → Open (moved A r m) tid to (with_all parts (brought to tid m))
   one_move r tid to parts (Begins at user bytes wanted xo retry) o open_ =
       begins A r tid to parts at user bytes wanted xo retry (next_number r) refl o
@@ -122,7 +120,7 @@ module _ (A : Type 0) where
   one_move r tid to parts (Hears from (Release other)) o open_ = o
   one_move r tid to parts (Retries other) o open_ = retries r tid other to parts (tid == other) refl o open_
 
-  all_moves : (r : Requests) (tid : ℕ) (to : Address) (parts : List (Option Arrival)) (ms : List Move)
+  all_moves : (r : Requests) (tid : ℕ) (to : Address) (parts : List (Option AnswerPart)) (ms : List Move)
       → Open r tid to parts → StaysOpen A r tid ms → Open (moved_all A r ms) tid to (with_all parts (arrived to tid ms))
   all_moves r tid to parts [] o stays = o
   all_moves r tid to parts (m ∷ ms) o stays =

@@ -7,7 +7,7 @@ use Rattle.std.proofs.lemmas.Bool.{true≢false, false≢true, eq-eqb, eqb-true,
 use Rattle.std.proofs.lemmas.Bool.Decides.{nat_tests}
 use Rattle.at_atp_frame.specs.Frames.{Request}
 use Rattle.at_atp_frame.specs.Packets.{Packet}
-use Rattle.at_atp_requester.specs.Answers.{Arrival, is_wanted, bitmap_of, bit_is_set, whole}
+use Rattle.at_atp_requester.specs.Answers.{AnswerPart, is_wanted, bitmap_of, bit_is_set, whole}
 use Rattle.at_atp_requester.specs.Requests.{Transaction, request_by}
 use Rattle.at_atp_requester.specs.Wholes.{Came, NoneFor, IsEarliest, AreEarliest, IsResponseFrom, IsResponse}
 use Rattle.at_atp_requester.specs.Wholes.{IsStillWanted, first_at, firsts_from, firsts}
@@ -34,12 +34,12 @@ first_in [] c behind place none is = rw (eq-eqb c.place place is) refl
 first_in (d ∷ before) c behind place none is =
     rw (ne_eqb d.place place none.0) (first_in before c behind place none.1 is)
 
-earliest_first : (all : List Came) (place : ℕ) (part : Arrival) → IsEarliest all place part → first_at all place
+earliest_first : (all : List Came) (place : ℕ) (part : AnswerPart) → IsEarliest all place part → first_at all place
     ≡ Some part
 earliest_first all place part h = ap (λ l. first_at l place) h.is
     ∙ first_in h.before h.packet h.behind place h.none_before h.for_place ∙ ap Some h.brings
 
-first_earliest : (all : List Came) (place : ℕ) (part : Arrival) → first_at all place ≡ Some part
+first_earliest : (all : List Came) (place : ℕ) (part : AnswerPart) → first_at all place ≡ Some part
     → IsEarliest all place part
 first_earliest [] place part h = absurd (cc)
 first_earliest (c ∷ all) place part h = go (λ g. first_earliest all place part g) (c.place == place) refl h
@@ -70,7 +70,7 @@ first_earliest (c ∷ all) place part h = go (λ g. first_earliest all place par
 
 -- ---- the whole response
 
-rest_of : (a : Arrival) (o : Option (List Packet)) (packets : List Packet) → option_map (λ ps. a.packet ∷ ps) o
+rest_of : (a : AnswerPart) (o : Option (List Packet)) (packets : List Packet) → option_map (λ ps. a.packet ∷ ps) o
     ≡ Some packets → (rest : List Packet) × (o ≡ Some rest) × (a.packet ∷ rest ≡ packets)
 rest_of a None packets g = absurd (cc)
 rest_of a (Some rest) packets g = (rest, refl, cc)
@@ -88,7 +88,7 @@ whole_response : (n k : ℕ) (all : List Came) (packets : List Packet) → 1 ≤
 whole_response zero k all packets some h = absurd (omega (arith, some))
 whole_response (suc zero) k all packets some h = go (first_at all k) refl h
   where
-    ends : (a : Arrival) → first_at all k ≡ Some a → (b : Bool) → a.eom ≡ b
+    ends : (a : AnswerPart) → first_at all k ≡ Some a → (b : Bool) → a.eom ≡ b
         → cond b (Some (a.packet ∷ [])) (Some (a.packet ∷ [])) ≡ Some packets → IsResponseFrom k 1 all packets
     ends a e true end g = record {
       before = [];
@@ -109,14 +109,15 @@ whole_response (suc zero) k all packets some h = go (first_at all k) refl h
       are = cc;
     }
 
-    go : (o : Option Arrival) → first_at all k ≡ o → whole (o ∷ []) ≡ Some packets → IsResponseFrom k 1 all packets
+    go : (o : Option AnswerPart) → first_at all k ≡ o → whole (o ∷ []) ≡ Some packets → IsResponseFrom k 1 all packets
     go None e g = absurd (cc)
     go (Some a) e g = ends a e a.eom refl g
 whole_response (suc (suc n)) k all packets some h =
     go (λ rest g. whole_response (suc n) (k + 1) all rest (omega arith) g) (first_at all k) refl h
   where
     ends : ((rest : List Packet) → whole (firsts_from (k + 1) (suc n) all) ≡ Some rest
-        → IsResponseFrom (k + 1) (suc n) all rest) → (a : Arrival) → first_at all k ≡ Some a → (b : Bool) → a.eom ≡ b →
+        → IsResponseFrom (k + 1) (suc n) all rest) → (a : AnswerPart) → first_at all k ≡ Some a → (b : Bool)
+        → a.eom ≡ b →
         cond b (Some (a.packet ∷ [])) (option_map (λ ps. a.packet ∷ ps) (whole (firsts_from (k + 1) (suc n) all)))
         ≡ Some packets → IsResponseFrom k (suc (suc n)) all packets
     ends ih a e true end g =
@@ -144,21 +145,21 @@ whole_response (suc (suc n)) k all packets some h =
         }
 
     go : ((rest : List Packet) → whole (firsts_from (k + 1) (suc n) all) ≡ Some rest
-        → IsResponseFrom (k + 1) (suc n) all rest) → (o : Option Arrival) → first_at all k ≡ o
+        → IsResponseFrom (k + 1) (suc n) all rest) → (o : Option AnswerPart) → first_at all k ≡ o
         → whole (o ∷ firsts_from (k + 1) (suc n) all) ≡ Some packets →
         IsResponseFrom k (suc (suc n)) all packets
     go ih None e g = absurd (cc)
     go ih (Some a) e g = ends ih a e a.eom refl g
 
-one_packet : (last : Arrival) (b : Bool) → cond b (Some (last.packet ∷ [])) (Some (last.packet ∷ []))
+one_packet : (last : AnswerPart) (b : Bool) → cond b (Some (last.packet ∷ [])) (Some (last.packet ∷ []))
     ≡ Some (last.packet ∷ [])
 one_packet last true = refl
 one_packet last false = refl
 
-response_whole : (before : List Arrival) (last : Arrival) (n k : ℕ) (all : List Came)
-    → AreEarliest all k (before ++ last ∷ []) → AllByRecursion (λ (part : Arrival). part.eom ≡ false) before
+response_whole : (before : List AnswerPart) (last : AnswerPart) (n k : ℕ) (all : List Came)
+    → AreEarliest all k (before ++ last ∷ []) → AllByRecursion (λ (part : AnswerPart). part.eom ≡ false) before
     → ((last.eom ≡ true) ⊎ (length before + 1 ≡ n)) → length before + 1 ≤ n →
-    whole (firsts_from k n all) ≡ Some (map (λ (part : Arrival). part.packet) (before ++ last ∷ []))
+    whole (firsts_from k n all) ≡ Some (map (λ (part : AnswerPart). part.packet) (before ++ last ∷ []))
 response_whole before last zero k all are least ends few = absurd (omega (arith, few))
 response_whole [] last (suc zero) k all are least ends few =
     rw (earliest_first all k last are.0) (one_packet last last.eom)
@@ -184,7 +185,7 @@ no_bit : (i : ℕ) → bit_is_set 0 i ≡ false
 no_bit zero = refl
 no_bit (suc i) = no_bit i
 
-pub bit_wanted : (parts : List (Option Arrival)) (i : ℕ) → bit_is_set (bitmap_of parts) i ≡ is_wanted parts i
+pub bit_wanted : (parts : List (Option AnswerPart)) (i : ℕ) → bit_is_set (bitmap_of parts) i ≡ is_wanted parts i
 bit_wanted [] i = no_bit i
 bit_wanted (None ∷ parts) zero = eq-eqb ((1 + 2 * bitmap_of parts) % 2) 1 (omega arith)
 bit_wanted (None ∷ parts) (suc i) =
@@ -219,9 +220,9 @@ this_or_later k j X low this later = go (nat_lt k j) refl
     go false e = this (let not_past : j ≤ k = grind (arith, nat_tests, e) in omega (arith, not_past, low))
 
 abbrev pub GoesOn : List Came → ℕ → ℕ → Type 0
-GoesOn all k m = (j : ℕ) (part : Arrival) → k ≤ j → j < m → first_at all j ≡ Some part → part.eom ≡ false
+GoesOn all k m = (j : ℕ) (part : AnswerPart) → k ≤ j → j < m → first_at all j ≡ Some part → part.eom ≡ false
 
-goes_on_next : (all : List Came) (k m : ℕ) → ((part : Arrival) → first_at all k ≡ Some part → part.eom ≡ false)
+goes_on_next : (all : List Came) (k m : ℕ) → ((part : AnswerPart) → first_at all k ≡ Some part → part.eom ≡ false)
     → GoesOn all (k + 1) m → GoesOn all k m
 goes_on_next all k m here rest j part low high some =
     this_or_later k j (part.eom ≡ false) low (λ same. here part (ap (first_at all) (sym same) ∙ some))
@@ -235,7 +236,7 @@ wanted_missing (suc n) k zero m all at h = go (first_at all k) refl h
     here : m ≡ k
     here = omega (arith, at)
 
-    go : (o : Option Arrival) → first_at all k ≡ o → is_none o ≡ true → (zero < suc n) × (first_at all m ≡ None)
+    go : (o : Option AnswerPart) → first_at all k ≡ o → is_none o ≡ true → (zero < suc n) × (first_at all m ≡ None)
         × GoesOn all k m
     go None e g = (
       omega arith,
@@ -248,21 +249,21 @@ wanted_missing (suc n) k (suc i) m all at h = go (λ g. wanted_missing n (k + 1)
     (first_at all k) refl h
   where
     more : (i < n) × (first_at all m ≡ None) × GoesOn all (k + 1) m
-        → ((part : Arrival) → first_at all k ≡ Some part → part.eom ≡ false) → (suc i < suc n)
+        → ((part : AnswerPart) → first_at all k ≡ Some part → part.eom ≡ false) → (suc i < suc n)
         × (first_at all m ≡ None) × GoesOn all k m
     more r here = let few = r.0 in (omega (arith, few), r.1, goes_on_next all k m here r.2)
 
     ends : (is_wanted (firsts_from (k + 1) n all) i ≡ true → (i < n) × (first_at all m ≡ None) × GoesOn all (k + 1) m)
-        → (a : Arrival) → first_at all k ≡ Some a → (b : Bool) → a.eom ≡ b
+        → (a : AnswerPart) → first_at all k ≡ Some a → (b : Bool) → a.eom ≡ b
         → cond b false (is_wanted (firsts_from (k + 1) n all) i) ≡ true →
         (suc i < suc n) × (first_at all m ≡ None) × GoesOn all k m
     ends ih a e true end g = absurd (false≢true g)
     ends ih a e false end g =
         more (ih g) (λ part some. let both : Some a ≡ Some part = sym e ∙ some in let same : a
-        ≡ part = cc in ap (λ (x : Arrival). x.eom) (sym same) ∙ end)
+        ≡ part = cc in ap (λ (x : AnswerPart). x.eom) (sym same) ∙ end)
 
     go : (is_wanted (firsts_from (k + 1) n all) i ≡ true → (i < n) × (first_at all m ≡ None) × GoesOn all (k + 1) m)
-        → (o : Option Arrival) → first_at all k ≡ o → is_wanted (o ∷ firsts_from (k + 1) n all) (suc i) ≡ true →
+        → (o : Option AnswerPart) → first_at all k ≡ o → is_wanted (o ∷ firsts_from (k + 1) n all) (suc i) ≡ true →
         (suc i < suc n) × (first_at all m ≡ None) × GoesOn all k m
     go ih None e g = more (ih g) (λ part some. let wrong : None ≡ Some part = sym e ∙ some in absurd (cc))
     go ih (Some a) e g = ends ih a e a.eom refl g
@@ -276,7 +277,7 @@ missing_wanted (suc n) k (suc i) m all at few none on =
     go (missing_wanted n (k + 1) i m all (omega (arith, at)) (omega (arith, few)) none
     (λ j part low high some. on j part (omega (arith, low)) high some)) (first_at all k) refl
   where
-    go : is_wanted (firsts_from (k + 1) n all) i ≡ true → (o : Option Arrival) → first_at all k ≡ o
+    go : is_wanted (firsts_from (k + 1) n all) i ≡ true → (o : Option AnswerPart) → first_at all k ≡ o
         → is_wanted (firsts_from k (suc n) all) (suc i) ≡ true
     go ih None e = rw e ih
     go ih (Some a) e = rw (e, on k a (omega arith) (omega (arith, at)) e) ih

@@ -10,7 +10,7 @@ use Rattle.at_atp_frame.specs.Frames.{Content, spelled_all}
 use Rattle.at_atp_requester.specs.Requests.{Transaction, Requests, is_numbered, retried_with, retried, request_by}
 use Rattle.at_atp_requester.specs.Requests.{IsRetried}
 use Rattle.at_ddp.specs.Tables.{replaced}
-use Rattle.at_atp_requester.specs.declared.step.Retry.TheVariants.{AskedAgain, Failed}
+use Rattle.at_atp_requester.specs.declared.progress.Retry.TheVariants.{AskedAgain, Failed}
 use Rattle.at_atp_requester.proofs.StepLemmas.{remove-set}
 use Rattle.at_ddp.proofs.TableLemmas.{Found}
 

@@ -10,7 +10,7 @@ use Rattle.at_atp_frame.specs.Frames.{Content, Request, Response, Release, numbe
 use Rattle.at_atp_requester.specs.Requests.{Transaction, Requests, Effect, Retried, has_number, is_numbered, is_of}
 use Rattle.at_atp_requester.specs.Requests.{begun, came, is_finished, response_came, heard, retried_with, retried}
 use Rattle.at_ddp.specs.Tables.{replaced, without_first}
-use Rattle.at_atp_requester.specs.declared.step.Retry.TheVariants.{Failed}
+use Rattle.at_atp_requester.specs.declared.progress.Retry.TheVariants.{Failed}
 use Rattle.at_ddp.proofs.Alls.{all_found}
 use Rattle.at_atp_requester.proofs.MoveLemmas.{kept_tid}
 use Rattle.at_atp_requester.proofs.OpenLemmas.{is_there}

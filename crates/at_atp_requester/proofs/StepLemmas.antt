@@ -8,18 +8,18 @@ use Rattle.at_ddp.specs.Outbox.{Outbox, Sends}
 use Rattle.at_ddp.specs.declared.address.Address.{Address}
 use Rattle.at_ddp.proofs.OutboxLemmas.{sends_nothing}
 use Rattle.at_atp_frame.specs.Packets.{Packet}
-use Rattle.at_atp_requester.specs.Answers.{Arrival, is_wanted, whole, with_part}
+use Rattle.at_atp_requester.specs.Answers.{AnswerPart, is_wanted, whole, with_part}
 use Rattle.at_atp_frame.specs.Frames.{Response, spelled_all}
 use Rattle.at_atp_requester.specs.Requests.{Transaction, Requests, is_of, Effect, release_by, came, is_finished}
 use Rattle.at_atp_requester.specs.Requests.{is_ignored, heard, IsHeard, IsEffect}
-use Rattle.at_atp_requester.specs.declared.step.Step.{Step}
-use Rattle.at_atp_requester.specs.declared.step.Step.TheVariants.{Ignored, Finished}
+use Rattle.at_atp_requester.specs.declared.progress.RequestProgress.{RequestProgress}
+use Rattle.at_atp_requester.specs.declared.progress.RequestProgress.TheVariants.{Ignored, Finished}
 use Rattle.at_ddp.specs.Tables.{replaced, without_first}
 use Rattle.at_ddp.proofs.TableLemmas.{Found}
 
 -- the effect of a packet with which the answer is there
-pub effect_finished : {A E : Type 0} (t : Transaction) (place : ℕ) (part : Arrival) (sts : Bool)
-    (packets : List Packet) (r : Result (Step A) E) (new : Transaction) (before after : Outbox) →
+pub effect_finished : {A E : Type 0} (t : Transaction) (place : ℕ) (part : AnswerPart) (sts : Bool)
+    (packets : List Packet) (r : Result (RequestProgress A) E) (new : Transaction) (before after : Outbox) →
     is_wanted t.parts place ≡ true → whole (with_part t.parts place part) ≡ Some packets
     → IfOk r (λ s. (s ≡ Finished packets) × Sends before after (spelled_all (release_by t))) →
     IfOk r (λ s. IsEffect (came {A = A} t place part sts) s new before after)
@@ -46,7 +46,7 @@ remove-set xs i y = λ j. take-set xs i y j ++ drop-set-lt (suc i) xs i y (omega
 
 -- the transaction that the packet came for took it in
 pub heard_some : {A : Type 0} (r : Requests) (from : Address) (place : ℕ) (eom sts : Bool) (tid : ℕ)
-    (user bytes : List ℕ) (i : ℕ) (s : Step A) (new : Transaction) (standing : List Transaction)
+    (user bytes : List ℕ) (i : ℕ) (s : RequestProgress A) (new : Transaction) (standing : List Transaction)
     (before after : Outbox) →
     (f : Found (is_of tid from) r.standing i)
     → IsEffect (came f.entry place (record { eom = eom; packet = record { user = user; data_ = bytes } }) sts) s
@@ -70,5 +70,6 @@ heard_some {A} r from place eom sts tid user bytes i s new standing before after
 
     stands : standing ≡ cond (is_finished e.step) (without_first (is_of tid from) r.standing)
         (replaced (is_of tid from) e.after r.standing)
-    stands = is ∙ ap (λ (x : Step A). cond (is_finished x) (remove (set r.standing i new) i) (set r.standing i new))
+    stands = is ∙ ap (λ (x : RequestProgress A). cond (is_finished x) (remove (set r.standing i new) i)
+        (set r.standing i new))
         effect.is_step ∙ choose (is_finished e.step) effect.is_new

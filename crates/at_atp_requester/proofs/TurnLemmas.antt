@@ -6,12 +6,12 @@ use Rattle.std.specs.List.{position_from}
 use Rattle.std.proofs.lemmas.Bool.{false≢true, and_parts, not-true}
 use Rattle.at_ddp.specs.declared.address.Address.{Address}
 use Rattle.at_atp_frame.specs.Packets.{Packet}
-use Rattle.at_atp_requester.specs.Answers.{Arrival, is_wanted, whole, with_part}
+use Rattle.at_atp_requester.specs.Answers.{AnswerPart, is_wanted, whole, with_part}
 use Rattle.at_atp_frame.specs.Frames.{Content, Response}
 use Rattle.at_atp_requester.specs.Requests.{NumbersDiffer, Transaction, Requests, is_numbered, is_of, next_number}
 use Rattle.at_atp_requester.specs.Requests.{beginning, is_at_least_once}
 use Rattle.at_atp_requester.specs.Requests.{came, came_for, was_kept, is_finished, heard, finishes}
-use Rattle.at_atp_requester.specs.declared.step.Step.TheVariants.{Finished}
+use Rattle.at_atp_requester.specs.declared.progress.RequestProgress.TheVariants.{Finished}
 use Rattle.at_atp_requester.proofs.AnswerLemmas.{wanted-within}
 use Rattle.at_ddp.specs.Tables.{without_first}
 use Rattle.at_ddp.proofs.TableLemmas as places
@@ -19,14 +19,14 @@ use Rattle.at_ddp.proofs.TableLemmas.{Found}
 use Rattle.at_atp_requester.proofs.ClosingLemmas.{same_gone}
 
 -- the transaction is at-least-once, and the packet completes its answer
-pub record Ended (t : Transaction) (place : ℕ) (part : Arrival) : Type 0 where
+pub record Ended (t : Transaction) (place : ℕ) (part : AnswerPart) : Type 0 where
   pub not_xo : t.xo ≡ false
   pub wanted : is_wanted t.parts place ≡ true
   pub within : place < length t.parts
   pub packets : List Packet
   pub is_whole : whole (with_part t.parts place part) ≡ Some packets
 
-ended : (A : Type 0) (t : Transaction) (place : ℕ) (part : Arrival) (sts : Bool) → t.xo ≡ false
+ended : (A : Type 0) (t : Transaction) (place : ℕ) (part : AnswerPart) (sts : Bool) → t.xo ≡ false
     → is_finished (came {A = A} t place part sts).step ≡ true → Ended t place part
 ended A t place part sts not_xo h = wants (is_wanted t.parts place) refl sts h
   where
@@ -76,7 +76,7 @@ pub ended_at : (A : Type 0) (r : Requests) (from : Address) (place : ℕ) (eom s
     finishes A r from (Response place eom sts tid user bytes) ≡ true
     → Ended f.entry place (record { eom = eom; packet = record { user = user; data_ = bytes } })
 ended_at A r from place eom sts tid user bytes i f h =
-    let part : Arrival = record { eom = eom; packet = record { user = user; data_ = bytes } } in
+    let part : AnswerPart = record { eom = eom; packet = record { user = user; data_ = bytes } } in
     let both = and_parts (not f.entry.xo) (is_finished (came {A = A} f.entry place part sts).step)
     (finishes_at A r from place eom sts tid user bytes i f ∙ h) in
     ended A f.entry place part sts (not-true f.entry.xo both.0) both.1

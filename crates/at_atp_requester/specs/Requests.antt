@@ -6,14 +6,14 @@ use Rattle.at_ddp.specs.Address.{same_address}
 use Rattle.at_ddp.specs.Outbox.{Outbox, Sends}
 use Rattle.at_ddp.specs.declared.address.Address.{Address}
 use Rattle.at_atp_frame.specs.Packets.{Packet}
-use Rattle.at_atp_requester.specs.Answers.{Arrival, is_wanted, bitmap_of, whole, with_part}
+use Rattle.at_atp_requester.specs.Answers.{AnswerPart, is_wanted, bitmap_of, whole, with_part}
 use Rattle.at_atp_frame.specs.Frames.{Content, Request, Response, Release, spelled_all}
 use Rattle.at_ddp.specs.Tables.{replaced, without_first}
 use Rattle.at_ddp.specs.Numbers.{first_free}
-use Rattle.at_atp_requester.specs.declared.step.Retry.{Retry}
-use Rattle.at_atp_requester.specs.declared.step.Retry.TheVariants as retry
-use Rattle.at_atp_requester.specs.declared.step.Step.{Step}
-use Rattle.at_atp_requester.specs.declared.step.Step.TheVariants as step
+use Rattle.at_atp_requester.specs.declared.progress.Retry.{Retry}
+use Rattle.at_atp_requester.specs.declared.progress.Retry.TheVariants as retry
+use Rattle.at_atp_requester.specs.declared.progress.RequestProgress.{RequestProgress}
+use Rattle.at_atp_requester.specs.declared.progress.RequestProgress.TheVariants as step
 
 -- an open transaction: its number, whom it asks, what it asks, the retries left, and what came for each place
 pub record Transaction : Type 0 where
@@ -23,7 +23,7 @@ pub record Transaction : Type 0 where
   pub data_ : List ℕ
   pub xo : Bool
   pub retries : ℕ
-  pub parts : List (Option Arrival)
+  pub parts : List (Option AnswerPart)
 
 -- the number to try next, and the open transactions in the order in which they began
 pub record Requests : Type 0 where
@@ -86,7 +86,7 @@ is_of tid from t = (t.tid == tid) && same_address t.to from
 
 -- what a packet does to the transaction that it came for: the step, the transaction after it, and what is sent
 pub record Effect (A : Type 0) : Type 0 where
-  pub step : Step A
+  pub step : RequestProgress A
   pub after : Transaction
   pub sent : List (Address × Content)
 
@@ -103,27 +103,27 @@ was_kept t sts (Some packets) = record { step = step.Finished packets; after = t
 was_kept t true None = asked_again t
 was_kept t false None = record { step = step.Kept; after = t; sent = [] }
 
-abbrev pub came_for : {A : Type 0} → Transaction → ℕ → Arrival → Bool → Bool → Effect A
+abbrev pub came_for : {A : Type 0} → Transaction → ℕ → AnswerPart → Bool → Bool → Effect A
 came_for t place part sts true =
     was_kept (record t { parts = with_part t.parts place part }) sts (whole (with_part t.parts place part))
 came_for t place part true false = asked_again t
 came_for t place part false false = record { step = step.Ignored; after = t; sent = [] }
 
 -- a packet came for this place, with the status flag or without it
-abbrev pub came : {A : Type 0} → Transaction → ℕ → Arrival → Bool → Effect A
+abbrev pub came : {A : Type 0} → Transaction → ℕ → AnswerPart → Bool → Effect A
 came t place part sts = came_for t place part sts (is_wanted t.parts place)
 
-abbrev pub is_finished : {A : Type 0} → Step A → Bool
+abbrev pub is_finished : {A : Type 0} → RequestProgress A → Bool
 is_finished (step.Finished packets) = true
 is_finished other = false
 
-abbrev pub is_ignored : {A : Type 0} → Step A → Bool
+abbrev pub is_ignored : {A : Type 0} → RequestProgress A → Bool
 is_ignored step.Ignored = true
 is_ignored other = false
 
 -- what came of a packet: the step, the requester after it, and what is sent
 pub record Heard (A : Type 0) : Type 0 where
-  pub step : Step A
+  pub step : RequestProgress A
   pub after : Requests
   pub sent : List (Address × Content)
 
@@ -143,7 +143,7 @@ settled r this e = record {
   sent = e.sent;
 }
 
-abbrev pub response_came : {A : Type 0} → Requests → (Transaction → Bool) → ℕ → Arrival → Bool → Option Transaction
+abbrev pub response_came : {A : Type 0} → Requests → (Transaction → Bool) → ℕ → AnswerPart → Bool → Option Transaction
     → Heard A
 response_came r this place part sts None = ignored r
 response_came r this place part sts (Some t) = settled r this (came t place part sts)
@@ -208,13 +208,15 @@ pub record IsRetried (r : Requests) (tid : ℕ) (s : Retry) (new : Requests) (be
   pub sends : Sends before after (spelled_all effect.sent)
 
 -- the step, the new requester and what was sent are these
-pub record IsHeard {A : Type 0} (h : Heard A) (s : Step A) (new : Requests) (before after : Outbox) : Type 0 where
+pub record IsHeard {A : Type 0} (h : Heard A) (s : RequestProgress A) (new : Requests)
+    (before after : Outbox) : Type 0 where
   pub is_step : s ≡ h.step
   pub is_new : new ≡ h.after
   pub sends : Sends before after (spelled_all h.sent)
 
 -- the step and what was sent are those of a packet's effect, and so is the transaction, if it is still open
-pub record IsEffect {A : Type 0} (e : Effect A) (s : Step A) (new : Transaction) (before after : Outbox) : Type 0 where
+pub record IsEffect {A : Type 0} (e : Effect A) (s : RequestProgress A) (new : Transaction)
+    (before after : Outbox) : Type 0 where
   pub is_step : s ≡ e.step
   pub is_new : is_finished e.step ≡ false → new ≡ e.after
   pub sends : Sends before after (spelled_all e.sent)

@@ -5,7 +5,7 @@ use Rattle.std.specs.Prelude.{find, map, length, option_map, Option, Some, None,
 use Rattle.std.specs.List.{AllByRecursion}
 use Rattle.at_ddp.specs.Address.{same_address}
 use Rattle.at_ddp.specs.declared.address.Address.{Address}
-use Rattle.at_atp_requester.specs.Answers.{Arrival}
+use Rattle.at_atp_requester.specs.Answers.{AnswerPart}
 use Rattle.at_atp_frame.specs.Frames.{Content, Response}
 use Rattle.at_atp_frame.specs.Packets.{Packet}
 use Rattle.at_atp_requester.specs.Requests.{Transaction, Requests, Retried, has_number, next_number, beginning, begun}
@@ -14,20 +14,20 @@ use Rattle.at_atp_requester.specs.Requests.{came, heard, is_finished, retried}
 -- a packet that came for a place, with the status flag or without
 pub record Came : Type 0 where
   pub place : ℕ
-  pub part : Arrival
+  pub part : AnswerPart
   pub sts : Bool
 
 -- the first packet that came for a place
-abbrev pub first_at : List Came → ℕ → Option Arrival
+abbrev pub first_at : List Came → ℕ → Option AnswerPart
 first_at all place = option_map (λ c. c.part) (find (λ c. c.place == place) all)
 
 -- the first packets of so many places, from this one on
-abbrev pub firsts_from : ℕ → ℕ → List Came → List (Option Arrival)
+abbrev pub firsts_from : ℕ → ℕ → List Came → List (Option AnswerPart)
 firsts_from place zero all = []
 firsts_from place (suc n) all = first_at all place ∷ firsts_from (place + 1) n all
 
 -- the first packet of each place that was asked for
-abbrev pub firsts : ℕ → List Came → List (Option Arrival)
+abbrev pub firsts : ℕ → List Came → List (Option AnswerPart)
 firsts wanted all = firsts_from 0 wanted all
 
 -- a transaction after these packets came for it, one after another
@@ -49,7 +49,7 @@ abbrev pub NoneFor : ℕ → List Came → Type 0
 NoneFor place all = AllByRecursion (λ (c : Came). c.place ≢ place) all
 
 -- the earliest packet that came for a place
-pub record IsEarliest (all : List Came) (place : ℕ) (part : Arrival) : Type 0 where
+pub record IsEarliest (all : List Came) (place : ℕ) (part : AnswerPart) : Type 0 where
   pub before : List Came
   pub packet : Came
   pub behind : List Came
@@ -59,20 +59,20 @@ pub record IsEarliest (all : List Came) (place : ℕ) (part : Arrival) : Type 0 
   pub brings : packet.part ≡ part
 
 -- the earliest packets of places that follow each other, from this place on
-abbrev pub AreEarliest : List Came → ℕ → List Arrival → Type 0
+abbrev pub AreEarliest : List Came → ℕ → List AnswerPart → Type 0
 AreEarliest all place [] = Unit {0}
 AreEarliest all place (part ∷ parts) = IsEarliest all place part × AreEarliest all (place + 1) parts
 
 -- The response to a request for so many places, from this one on: the earliest packet of each place up to the last. The
 -- last place is the least whose earliest packet ends the response, or the last that was asked for.
 pub record IsResponseFrom (place wanted : ℕ) (all : List Came) (packets : List Packet) : Type 0 where
-  pub before : List Arrival
-  pub last : Arrival
+  pub before : List AnswerPart
+  pub last : AnswerPart
   pub earliest : AreEarliest all place (before ++ last ∷ [])
-  pub least : AllByRecursion (λ (part : Arrival). part.eom ≡ false) before
+  pub least : AllByRecursion (λ (part : AnswerPart). part.eom ≡ false) before
   pub ends : (last.eom ≡ true) ⊎ (length before + 1 ≡ wanted)
   pub asked_for : length before + 1 ≤ wanted
-  pub are : packets ≡ map (λ (part : Arrival). part.packet) (before ++ last ∷ [])
+  pub are : packets ≡ map (λ (part : AnswerPart). part.packet) (before ++ last ∷ [])
 
 abbrev pub IsResponse : ℕ → List Came → List Packet → Type 0
 IsResponse wanted all packets = IsResponseFrom 0 wanted all packets
@@ -82,7 +82,7 @@ IsResponse wanted all packets = IsResponseFrom 0 wanted all packets
 pub record IsStillWanted (wanted : ℕ) (all : List Came) (place : ℕ) : Type 0 where
   pub asked_for : place < wanted
   pub none_came : NoneFor place all
-  pub goes_on : (earlier : ℕ) (part : Arrival) → earlier < place → IsEarliest all earlier part → part.eom ≡ false
+  pub goes_on : (earlier : ℕ) (part : AnswerPart) → earlier < place → IsEarliest all earlier part → part.eom ≡ false
 
 -- ---- one requester
 

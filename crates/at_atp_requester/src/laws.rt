@@ -5,14 +5,14 @@ ghost use Rattle.std.specs.Prelude.{length, replicate, Some, None, IsSome};
 ghost use Rattle.at_ddp.specs.declared.address.Address.{Address};
 ghost use Rattle.at_atp_requester.specs.Answers.{bitmap_of, bit_is_set, is_wanted, whole};
 ghost use Rattle.at_atp_frame.specs.Frames.{Content, Request, Response, number_of};
-ghost use Rattle.at_atp_requester.specs.declared.step.Retry.TheVariants.{Failed};
+ghost use Rattle.at_atp_requester.specs.declared.progress.Retry.TheVariants.{Failed};
 ghost use Rattle.at_atp_frame.specs.Packets.{Packet};
 ghost use Rattle.at_atp_requester.specs.Requests.{Transaction, Requests, Retried, has_number, is_numbered, is_finished};
 ghost use Rattle.at_atp_requester.specs.Requests.{next_number, beginning, begun, came, heard, retried, request_by};
 ghost use Rattle.at_atp_requester.specs.Requests.{IsRequester, no_requests};
 ghost use Rattle.at_atp_requester.specs.Wholes.{Came, firsts, after_all, NoneFinishes, Move, Hears, moved, moved_all};
 ghost use Rattle.at_atp_requester.specs.Wholes.{StaysOpen, arrived, IsResponse, IsStillWanted};
-ghost use Rattle.at_atp_requester.specs.declared.step.Step.TheVariants.{Finished};
+ghost use Rattle.at_atp_requester.specs.declared.progress.RequestProgress.TheVariants.{Finished};
 
 use std::alloc::Allocator;
 

@@ -4,11 +4,11 @@
 pub mod laws;
 mod numbers;
 mod part;
+mod progress;
 mod requester;
 mod standing;
-mod step;
 mod transaction;
 mod turning;
 
+pub use progress::{RequestProgress, Retry};
 pub use requester::Requester;
-pub use step::{Retry, Step};

@@ -1,7 +1,7 @@
 //! The packets that came for a transaction, each in its place, and which are still wanted.
-ghost use Rattle.std.specs.Prelude.{◌≡◌, ◌+◌, ◌≤◌, ◌<◌, ◌^◌, ◌++◌, length, is_some, nat_lt, slice_set, Some, IfOk};
+ghost use Rattle.std.specs.Prelude.{◌≡◌, ◌+◌, ◌≤◌, ◌<◌, ◌^◌, length, is_some, Some, IfOk};
 ghost use Rattle.std.specs.Prelude.{vec_capacity, vec_len};
-ghost use Rattle.at_atp_requester.specs.Answers.{Arrival, is_wanted, bitmap_of, whole, with_part, gathered};
+ghost use Rattle.at_atp_requester.specs.Answers.{AnswerPart, is_wanted, bitmap_of, whole, with_part, gathered};
 ghost use Rattle.at_atp_frame.specs.Packets.{Packet};
 
 use at_atp_frame::Packet;
@@ -17,9 +17,9 @@ pub(crate) struct Part<A: Allocator> {
 }
 
 impl<A: Allocator> Model for Part<A> {
-    ghost use Rattle.at_atp_requester.specs.Answers.{Arrival};
+    ghost use Rattle.at_atp_requester.specs.Answers.{AnswerPart};
 
-    ghost Value = { Arrival };
+    ghost Value = { AnswerPart };
 
     ghost view = { λ p. record { eom = p.eom; packet = p.packet } };
 }
@@ -104,7 +104,8 @@ pub(crate) fn completes<A: Allocator>(
     eom: bool,
 ) -> bool
     requires { sequence_number < length parts.now }
-    ensures { (part : Arrival) → part.eom ≡ eom → result ≡ is_some (whole (with_part parts.now sequence_number part)) }
+    ensures { (part : AnswerPart) → part.eom ≡ eom
+        → result ≡ is_some (whole (with_part parts.now sequence_number part)) }
 {
     match parts {
         [] => false,

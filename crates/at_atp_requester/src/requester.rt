@@ -11,8 +11,8 @@ ghost use Rattle.at_atp_requester.specs.Requests.{IsRequester, IsRetried};
 
 use crate::numbers::next_of;
 use crate::part::Part;
+use crate::progress::{RequestProgress, Retry};
 use crate::standing::{Standing, index_numbered, index_of, settle};
-use crate::step::{Retry, Step};
 use crate::transaction::{Arriving, Question, Transaction};
 use at_atp_frame::{AtpFault, Frame, MAX_DATA, send};
 use at_ddp::{Address, Outbox};
@@ -147,7 +147,7 @@ impl<A: Allocator + Copy> Requester<A> {
         from: Address,
         frame: &Frame<'_>,
         out: &mut Outbox<A>,
-    ) -> Result<Step<A>, AllocError>
+    ) -> Result<RequestProgress<A>, AllocError>
         ensures ok { IfOk result (λ step. IsHeard (heard self.old from (content frame.now)) step self.new out.old
             out.new) }
         ensures unchanged { OnErr result (self.new ≡ self.old) }
@@ -157,7 +157,7 @@ impl<A: Allocator + Copy> Requester<A> {
         ensures ignored { is_ignored (heard {A = A} self.old from (content frame.now)).step ≡ true → IsOk result }
     {
         let Frame::Response {
-            place,
+            sequence_number,
             eom,
             sts,
             tid,
@@ -165,13 +165,13 @@ impl<A: Allocator + Copy> Requester<A> {
             data_,
         } = *frame
         else {
-            return Ok(Step::Ignored);
+            return Ok(RequestProgress::Ignored);
         };
         let Some(index) = index_of(&self.standing, tid, from) else {
-            return Ok(Step::Ignored);
+            return Ok(RequestProgress::Ignored);
         };
         let arriving = Arriving {
-            sequence_number: place,
+            sequence_number,
             eom,
             sts,
             user,

@@ -5,7 +5,7 @@ ghost use Rattle.std.specs.List.{position_from};
 ghost use Rattle.at_atp_requester.specs.Requests.{NumbersDiffer, has_number, is_finished, is_numbered, is_of};
 ghost use Rattle.at_atp_requester.specs.Standing.{AreFiled};
 
-use crate::step::Step;
+use crate::progress::RequestProgress;
 use crate::transaction::Transaction;
 use at_ddp::Address;
 use at_table::Table;
@@ -42,14 +42,18 @@ pub(crate) fn index_of<A: Allocator>(
 }
 
 // Closes the transaction at an index if the step finished it.
-pub(crate) fn settle<A: Allocator>(standing: &mut Standing<A>, index: usize, step: &Step<A>)
+pub(crate) fn settle<A: Allocator>(
+    standing: &mut Standing<A>,
+    index: usize,
+    step: &RequestProgress<A>,
+)
     requires within { index < length standing.old.items }
     requires filed { AreFiled standing.old }
     ensures items { standing.new.items ≡ (if is_finished step.now then remove standing.old.items index
         else standing.old.items) }
     ensures filed { AreFiled standing.new }
 {
-    if let Step::Finished(_) = step {
+    if let RequestProgress::Finished(_) = step {
         drop(standing.remove(index));
     }
 }

@@ -3,12 +3,12 @@ ghost use Rattle.std.specs.Prelude.{◌≡◌, ◌+◌, ◌-◌, ◌≤◌, ◌<
 ghost use Rattle.std.specs.Prelude.{length, is_some, Some, None, IfOk, OnOk, OnErr, IsOk, true, false, [], replicate};
 ghost use Rattle.at_ddp.specs.Outbox.{Sends};
 ghost use Rattle.at_atp_frame.specs.Packets.{Packet as Arrived};
-ghost use Rattle.at_atp_requester.specs.Answers.{Arrival, is_wanted, whole, with_part};
+ghost use Rattle.at_atp_requester.specs.Answers.{AnswerPart, is_wanted, whole, with_part};
 ghost use Rattle.at_atp_frame.specs.Frames.{content, CanBeWritten, data_of, spelled_all};
 ghost use Rattle.at_atp_requester.specs.Requests.{beginning, is_of, request_by, release_by, came, is_finished};
 
 use crate::part::{Part, bitmap_of, completes, gather, is_wanted};
-use crate::step::Step;
+use crate::progress::RequestProgress;
 use at_atp_frame::{Frame, PACKET_LEN, send};
 use at_ddp::{Address, Bytes, Listed, Outbox};
 use std::alloc::{AllocError, Allocator};
@@ -127,7 +127,7 @@ impl<A: Allocator> Transaction<A> {
 
     // Whether the packet with this sequence number would end this transaction, and the transaction is at-least-once.
     pub(crate) fn would_end(&self, sequence_number: u8, eom: bool) -> bool
-        ensures { (part : Arrival) (sts : Bool) → part.eom ≡ eom
+        ensures { (part : AnswerPart) (sts : Bool) → part.eom ≡ eom
             → result ≡ (not self.now.xo && is_finished (came {A = A} self.now sequence_number part sts).step) }
     {
         !self.xo && self.wants(sequence_number) && self.completes(sequence_number, eom)
@@ -143,7 +143,7 @@ impl<A: Allocator> Transaction<A> {
     // Whether the packet with this sequence number would complete the answer.
     fn completes(&self, sequence_number: u8, eom: bool) -> bool
         requires { sequence_number < length self.now.parts }
-        ensures { (part : Arrival) → part.eom ≡ eom
+        ensures { (part : AnswerPart) → part.eom ≡ eom
             → result ≡ is_some (whole (with_part self.now.parts sequence_number part)) }
     {
         completes(&self.parts, sequence_number, eom)
@@ -207,7 +207,7 @@ impl<A: Allocator + Copy> Transaction<A> {
         alloc: A,
         arriving: &Arriving<'_>,
         out: &mut Outbox<A>,
-    ) -> Result<Step<A>, AllocError>
+    ) -> Result<RequestProgress<A>, AllocError>
         ensures ok { IfOk result (λ step. IsEffect
             (came self.old arriving.now.sequence_number (arrival_of arriving.now) arriving.now.sts)
             step self.new out.old out.new) }
@@ -228,17 +228,17 @@ impl<A: Allocator + Copy> Transaction<A> {
     }
 
     // The packet with this sequence number is not wanted. STS still makes the requester ask again.
-    fn not_wanted(&self, sts: bool, out: &mut Outbox<A>) -> Result<Step<A>, AllocError>
-        ensures ok { (place : ℕ) (part : Arrival) → is_wanted self.now.parts place ≡ false
+    fn not_wanted(&self, sts: bool, out: &mut Outbox<A>) -> Result<RequestProgress<A>, AllocError>
+        ensures ok { (place : ℕ) (part : AnswerPart) → is_wanted self.now.parts place ≡ false
             → IfOk result (λ step. IsEffect (came self.now place part sts) step self.now out.old out.new) }
         ensures nothing_sent { OnErr result (Sends out.old out.new []) }
         ensures ignored { sts ≡ false → IsOk result }
     {
         if !sts {
-            return Ok(Step::Ignored);
+            return Ok(RequestProgress::Ignored);
         }
         send(out, self.to, &self.request())?;
-        Ok(Step::AskAgain)
+        Ok(RequestProgress::AskAgain)
     }
 
     // Keeps a packet that does not complete the answer. With STS it asks again for the rest.
@@ -247,7 +247,7 @@ impl<A: Allocator + Copy> Transaction<A> {
         alloc: A,
         arriving: &Arriving<'_>,
         out: &mut Outbox<A>,
-    ) -> Result<Step<A>, AllocError>
+    ) -> Result<RequestProgress<A>, AllocError>
         requires within { arriving.now.sequence_number < length self.old.parts }
         requires more { whole (with_part self.old.parts arriving.now.sequence_number (arrival_of arriving.now)) ≡ None }
         ensures ok { IfOk result (λ step. IsEffect (was_kept
@@ -262,12 +262,12 @@ impl<A: Allocator + Copy> Transaction<A> {
         let part = Part::copy_of(alloc, arriving.eom, arriving.user, arriving.bytes)?;
         if !arriving.sts {
             self.keep_part(arriving.sequence_number, part);
-            return Ok(Step::Kept);
+            return Ok(RequestProgress::Kept);
         }
         out.room(1, PACKET_LEN)?;
         self.keep_part(arriving.sequence_number, part);
         send(out, self.to, &self.request()).unwrap();
-        Ok(Step::AskAgain)
+        Ok(RequestProgress::AskAgain)
     }
 
     // Takes the packet that completes the answer.
@@ -276,11 +276,11 @@ impl<A: Allocator + Copy> Transaction<A> {
         alloc: A,
         arriving: &Arriving<'_>,
         out: &mut Outbox<A>,
-    ) -> Result<Step<A>, AllocError>
+    ) -> Result<RequestProgress<A>, AllocError>
         requires within { arriving.now.sequence_number < length self.old.parts }
         ensures ok { (packets : List Arrived)
             → whole (with_part self.old.parts arriving.now.sequence_number (arrival_of arriving.now)) ≡ Some packets
-            → IfOk result (λ step. (step ≡ Step.Finished packets)
+            → IfOk result (λ step. (step ≡ RequestProgress.Finished packets)
             × Sends out.old out.new (spelled_all (release_by self.old))) }
         ensures number { self.new.tid ≡ self.old.tid }
         ensures unchanged { OnErr result (self.new ≡ self.old) }
@@ -293,7 +293,7 @@ impl<A: Allocator + Copy> Transaction<A> {
         self.release(out)?;
         self.keep_part(arriving.sequence_number, part);
         let parts = mem::replace(&mut self.parts, Vec::new(alloc));
-        Ok(Step::Finished(Listed::from_vec(gather(parts, packets))))
+        Ok(RequestProgress::Finished(Listed::from_vec(gather(parts, packets))))
     }
 }
 

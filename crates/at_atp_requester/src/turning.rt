@@ -4,7 +4,7 @@ ghost use Rattle.std.specs.Prelude.{◌≡◌, ◌∷◌, [], true, false, is_so
 ghost use Rattle.std.specs.Prelude.{IsSome};
 ghost use Rattle.at_ddp.specs.Outbox.{Sends};
 ghost use Rattle.at_atp_frame.specs.Frames.{Response, content, spelled};
-ghost use Rattle.at_atp_requester.specs.Requests.{Requests, closing, next_number, beginning, begun, request_by};
+ghost use Rattle.at_atp_requester.specs.Requests.{closing, next_number, beginning, begun, request_by};
 ghost use Rattle.at_atp_requester.specs.Requests.{finishes, has_number, heard, is_response};
 
 use crate::numbers::next_of;
@@ -113,7 +113,7 @@ fn answer_in<'a>(frame: &Frame<'a>) -> Option<(u16, Arriving<'a>)>
     ensures other { is_some result ≡ is_response (content frame.now) }
 {
     let Frame::Response {
-        place,
+        sequence_number,
         eom,
         sts,
         tid,
@@ -124,7 +124,7 @@ fn answer_in<'a>(frame: &Frame<'a>) -> Option<(u16, Arriving<'a>)>
         return None;
     };
     let arriving = Arriving {
-        sequence_number: place,
+        sequence_number,
         eom,
         sts,
         user,

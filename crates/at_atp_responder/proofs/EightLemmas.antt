@@ -9,7 +9,7 @@ use Rattle.at_atp_frame.specs.Frames.{Content, Request, Response, Release}
 use Rattle.at_atp_frame.specs.Packets.{Packet}
 use Rattle.at_atp_responder.specs.Records.{AsksForEight, Record, State, Waiting, Answered, Released, asked_for}
 use Rattle.at_atp_responder.specs.Records.{came_again, is_key, is_passed_over, passed, release_came, released}
-use Rattle.at_atp_responder.specs.Records.{repeated, request_came, responses, taken}
+use Rattle.at_atp_responder.specs.Records.{repeated, request_came, responses, received}
 use Rattle.at_atp_responder.specs.declared.reception.Key.{Key}
 use Rattle.at_atp_responder.specs.declared.reception.Reception.TheVariants.{New}
 use Rattle.at_atp_responder.proofs.WaitLemmas.{its_own, same_new}
@@ -62,7 +62,7 @@ release_few rs key (Some r) = go r.state
     go Released = omega arith
 
 pub taken_few : (rs : List Record) (from : Address) (f : Content) → AsksForEight f
-    → length (taken rs from f).sent ≤ 8
+    → length (received rs from f).sent ≤ 8
 taken_few rs from (Response place eom sts tid user bytes) fits = omega arith
 taken_few rs from (Release tid) fits =
     let key : Key = record { from = from; tid = tid } in release_few rs key (find (is_key key) rs)
@@ -101,8 +101,8 @@ new_few rs own xo bitmap key packets (Some r) fits some h = go r.state h
     go Released g = absurd (cc)
 
 pub reply_few : (rs : List Record) (from : Address) (f : Content) (key : Key) (packets : List Packet) → AsksForEight f
-    → (taken rs from f).reception ≡ New key
-    → length (asked_for (find (is_key key) (taken rs from f).after) key packets) ≤ 8
+    → (received rs from f).reception ≡ New key
+    → length (asked_for (find (is_key key) (received rs from f).after) key packets) ≤ 8
 reply_few rs from (Response place eom sts tid user bytes) key packets fits h = absurd (cc)
 reply_few rs from (Release tid) key packets fits h = absurd (none (find (is_key own) rs) h)
   where

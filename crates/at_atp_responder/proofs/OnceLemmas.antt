@@ -8,9 +8,9 @@ use Rattle.at_atp_frame.specs.Frames.{Content, Request, Response, Release}
 use Rattle.at_atp_responder.specs.Once.{Event, Comes, Answers, Expires, Undoes, unless, next, is_new_of, hands_up}
 use Rattle.at_atp_responder.specs.Once.{same_key, stands, removes, once_if, hand_ups, removals, is_once}
 use Rattle.at_atp_frame.specs.Packets.{Packet}
-use Rattle.at_atp_responder.specs.Records.{State, Waiting, Answered, Released, Record, Taken, is_key, repeated}
+use Rattle.at_atp_responder.specs.Records.{State, Waiting, Answered, Released, Record, Received, is_key, repeated}
 use Rattle.at_atp_responder.specs.Records.{released, came_again, request_came, release_came, passed, is_passed_over}
-use Rattle.at_atp_responder.specs.Records.{taken, record_fault, answer_fault, is_kept, after_answer, expiry_fault}
+use Rattle.at_atp_responder.specs.Records.{received, record_fault, answer_fault, is_kept, after_answer, expiry_fault}
 use Rattle.at_ddp.specs.Tables.{replaced, without_first}
 use Rattle.at_atp_frame.specs.declared.fault.AtpFault.{AtpFault}
 use Rattle.at_atp_responder.specs.declared.reception.Key.{Key}
@@ -99,7 +99,7 @@ same_stand : (before then : Bool) → then ≡ before → Balanced false before 
 same_stand before then same = none_new before then (λ h. same ∙ h)
 
 -- what comes of a packet for one request
-abbrev Settled : Key → List Record → Taken → Type 0
+abbrev Settled : Key → List Record → Received → Type 0
 Settled key rs t = Balanced (is_new_of key t.reception) (stands key rs) (stands key t.after)
     × (stands key rs ≡ true → stands key t.after ≡ true)
 
@@ -168,7 +168,7 @@ release_settled key k rs (Some r) is = go r.state
     go Released = stays key rs (replaced (is_key k) (record r { state = Released }) rs)
         (came_settled key k rs r Released is)
 
-taken_settled : (key : Key) (rs : List Record) (from : Address) (f : Content) → Settled key rs (taken rs from f)
+taken_settled : (key : Key) (rs : List Record) (from : Address) (f : Content) → Settled key rs (received rs from f)
 taken_settled key rs from (Response place eom sts tid user bytes) = stays key rs rs refl
 taken_settled key rs from (Release tid) = release_settled key (record { from = from; tid = tid }) rs
     (find (is_key (record { from = from; tid = tid })) rs) refl
@@ -286,7 +286,7 @@ taken_away key k rs None h = go (same_key k key) refl
 pub removed_by : (key : Key) (rs : List Record) (r : Record) (e : Event) → find (is_key key) rs ≡ Some r
     → is_once r.state ≡ true → removes key rs e ≡ true → (e ≡ Expires key) ⊎ (e ≡ Undoes key)
 removed_by key rs r (Comes from f) is once h =
-    absurd (both_stand (stands key rs) (stands key (taken rs from f).after) (taken_settled key rs from f).1 h)
+    absurd (both_stand (stands key rs) (stands key (received rs from f).after) (taken_settled key rs from f).1 h)
 removed_by key rs r (Answers k packets) is once h = absurd (go (answer_fault rs k packets) refl h)
   where
     go : (o : Option AtpFault) → answer_fault rs k packets ≡ o

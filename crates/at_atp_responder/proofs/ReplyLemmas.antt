@@ -13,7 +13,7 @@ use Rattle.at_atp_frame.specs.declared.fault.AtpFault.{AtpFault}
 use Rattle.at_atp_responder.specs.declared.reception.Key.{Key}
 use Rattle.at_atp_responder.specs.Once.{Event, Comes, Answers, Expires, Undoes, unless, next, same_key, stands}
 use Rattle.at_atp_responder.specs.Records.{State, Waiting, Answered, Released, Record, is_key, responses, repeated}
-use Rattle.at_atp_responder.specs.Records.{released, request_came, release_came, passed, is_passed_over, taken}
+use Rattle.at_atp_responder.specs.Records.{released, request_came, release_came, passed, is_passed_over, received}
 use Rattle.at_atp_responder.specs.Records.{record_fault, answer_fault, is_kept, after_answer, expiry_fault, asked_for}
 use Rattle.at_atp_responder.specs.Records.{asked_bitmap}
 use Rattle.at_atp_responder.specs.Replies.{sent_unless, sent_by, answer_during, answer_left, IsPacketOf, IsOfAnswer}
@@ -47,7 +47,7 @@ release_sole key k a rs None is h = h
 release_sole key k a rs (Some r) is h = sole_changed key k a r (released r.state).state rs is (released_has r.state a) h
 
 taken_sole : (key : Key) (a : Option (List Packet)) (rs : List Record) (from : Address) (f : Content) → Sole key a rs
-    → Sole key a (taken rs from f).after
+    → Sole key a (received rs from f).after
 taken_sole key a rs from (Response place eom sts tid user bytes) h = h
 taken_sole key a rs from (Release tid) h = release_sole key (record { from = from; tid = tid }) a rs
     (find (is_key (record { from = from; tid = tid })) rs) refl h
@@ -183,7 +183,7 @@ release_sends key k a rs (Some r) = go r.state
     go Released = tt
 
 taken_sends : (key : Key) (a : Option (List Packet)) (rs : List Record) (from : Address) (f : Content) → Sole key a rs
-    → AllByRecursion (IsOfAnswer key a) (taken rs from f).sent
+    → AllByRecursion (IsOfAnswer key a) (received rs from f).sent
 taken_sends key a rs from (Response place eom sts tid user bytes) h = tt
 taken_sends key a rs from (Release tid) h = release_sends key (record { from = from; tid = tid }) a rs
     (find (is_key (record { from = from; tid = tid })) rs)

@@ -10,7 +10,7 @@ use Rattle.at_atp_frame.specs.Frames.{Content, Request, Response, Release, numbe
 use Rattle.at_atp_frame.specs.Packets.{Packet}
 use Rattle.at_atp_responder.specs.Records.{State, Waiting, Answered, Released, Record, is_key, responses, repeated}
 use Rattle.at_atp_responder.specs.Records.{released, came_again, request_came, release_came, passed, is_passed_over}
-use Rattle.at_atp_responder.specs.Records.{taken, record_fault, asked_for, asked_bitmap}
+use Rattle.at_atp_responder.specs.Records.{received, record_fault, asked_for, asked_bitmap}
 use Rattle.at_atp_responder.specs.declared.reception.Key.{Key}
 use Rattle.at_atp_responder.specs.declared.reception.Reception.TheVariants.{New}
 
@@ -55,8 +55,8 @@ came_new rs from tid xo bitmap key (Some r) some h = go r.state h
     go (Answered packets) g = absurd (cc)
     go Released g = absurd (cc)
 
-pub taken_new_waits : (rs : List Record) (from : Address) (f : Content) (key : Key) → (taken rs from f).reception
-    ≡ New key → IsWaiting from (number_of f) key (taken rs from f).after (taken rs from f).sent
+pub taken_new_waits : (rs : List Record) (from : Address) (f : Content) (key : Key) → (received rs from f).reception
+    ≡ New key → IsWaiting from (number_of f) key (received rs from f).after (received rs from f).sent
 taken_new_waits rs from (Response place eom sts tid user bytes) key h = absurd (cc)
 taken_new_waits rs from (Release tid) key h = go (find (is_key (record { from = from; tid = tid })) rs) h
   where

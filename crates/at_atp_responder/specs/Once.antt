@@ -5,7 +5,7 @@ use Rattle.at_ddp.specs.Address.{same_address}
 use Rattle.at_ddp.specs.declared.address.Address.{Address}
 use Rattle.at_atp_frame.specs.Frames.{Content}
 use Rattle.at_atp_frame.specs.Packets.{Packet}
-use Rattle.at_atp_responder.specs.Records.{State, Waiting, Answered, Released, Record, is_key, taken, record_fault}
+use Rattle.at_atp_responder.specs.Records.{State, Waiting, Answered, Released, Record, is_key, received, record_fault}
 use Rattle.at_atp_responder.specs.Records.{answer_fault, after_answer, expiry_fault}
 use Rattle.at_ddp.specs.Tables.{without_first}
 use Rattle.at_atp_frame.specs.declared.fault.AtpFault.{AtpFault}
@@ -31,7 +31,7 @@ unless rs None changed = changed
 
 -- the records after an event
 abbrev pub next : List Record → Event → List Record
-next rs (Comes from f) = (taken rs from f).after
+next rs (Comes from f) = (received rs from f).after
 next rs (Answers key packets) = unless rs (answer_fault rs key packets) (after_answer rs key packets)
 next rs (Expires key) = unless rs (expiry_fault (find (is_key key) rs)) (without_first (is_key key) rs)
 next rs (Undoes key) = unless rs (record_fault (find (is_key key) rs)) (without_first (is_key key) rs)
@@ -45,7 +45,7 @@ is_new_of key (reception.New k) = same_key k key
 is_new_of key other = false
 
 abbrev pub hands_up : Key → List Record → Event → Bool
-hands_up key rs (Comes from f) = is_new_of key (taken rs from f).reception
+hands_up key rs (Comes from f) = is_new_of key (received rs from f).reception
 hands_up key rs other = false
 
 -- does the record of a request stand?

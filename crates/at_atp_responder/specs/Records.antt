@@ -44,12 +44,12 @@ responses key place bitmap (p ∷ ps) =
     ++ responses key (place + 1) (bitmap / 2) ps
 
 -- what came of a packet: whether a request is delivered to the service, the records after it, and what is sent
-pub record Taken : Type 0 where
+pub record Received : Type 0 where
   pub reception : Reception
   pub after : List Record
   pub sent : List (Address × Content)
 
-abbrev pub passed : List Record → Taken
+abbrev pub passed : List Record → Received
 passed rs = record { reception = reception.Ignored; after = rs; sent = [] }
 
 -- what a packet does to the record of its request
@@ -77,11 +77,11 @@ released (Waiting xo bitmap) = record { reception = reception.Ignored; state = W
 released (Answered packets) = record { reception = reception.Released; state = Released; sent = [] }
 released Released = record { reception = reception.Ignored; state = Released; sent = [] }
 
-abbrev pub came_again : List Record → Key → Record → Repeat → Taken
+abbrev pub came_again : List Record → Key → Record → Repeat → Received
 came_again rs key r e =
     record { reception = e.reception; after = replaced (is_key key) (record r { state = e.state }) rs; sent = e.sent }
 
-abbrev pub request_came : List Record → Key → Bool → ℕ → Option Record → Taken
+abbrev pub request_came : List Record → Key → Bool → ℕ → Option Record → Received
 request_came rs key xo bitmap None =
     record {
       reception = reception.New key;
@@ -90,7 +90,7 @@ request_came rs key xo bitmap None =
     }
 request_came rs key xo bitmap (Some r) = came_again rs key r (repeated key bitmap r.state)
 
-abbrev pub release_came : List Record → Key → Option Record → Taken
+abbrev pub release_came : List Record → Key → Option Record → Received
 release_came rs key None = passed rs
 release_came rs key (Some r) = came_again rs key r (released r.state)
 
@@ -98,13 +98,13 @@ release_came rs key (Some r) = came_again rs key r (released r.state)
 abbrev pub is_passed_over : ℕ → Bool
 is_passed_over bitmap = bitmap == 0
 
-abbrev pub taken : List Record → Address → Content → Taken
-taken rs from (Request bitmap xo timer tid user bytes) =
+abbrev pub received : List Record → Address → Content → Received
+received rs from (Request bitmap xo timer tid user bytes) =
     if is_passed_over bitmap then passed rs
     else request_came rs (record { from = from; tid = tid }) xo bitmap
     (find (is_key (record { from = from; tid = tid })) rs)
-taken rs from (Response place eom sts tid user bytes) = passed rs
-taken rs from (Release tid) =
+received rs from (Response place eom sts tid user bytes) = passed rs
+received rs from (Release tid) =
     release_came rs (record { from = from; tid = tid }) (find (is_key (record { from = from; tid = tid })) rs)
 
 -- a bitmap has eight bits, one for each packet that an answer may have
@@ -186,7 +186,7 @@ abbrev pub expiring_key : Record → Option Key
 expiring_key r = if is_none (expiry_fault_of r.state) then Some r.key else None
 
 -- the reception, the new records and what was sent are these
-pub record IsTaken (t : Taken) (r : Reception) (new : List Record) (before after : Outbox) : Type 0 where
+pub record IsTaken (t : Received) (r : Reception) (new : List Record) (before after : Outbox) : Type 0 where
   pub is_reception : r ≡ t.reception
   pub is_new : new ≡ t.after
   pub sends : Sends before after (spelled_all t.sent)

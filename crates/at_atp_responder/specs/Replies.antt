@@ -7,7 +7,7 @@ use Rattle.at_atp_frame.specs.Frames.{Content, Response, number_of}
 use Rattle.at_atp_frame.specs.Packets.{Packet}
 use Rattle.at_atp_frame.specs.declared.fault.AtpFault.{AtpFault}
 use Rattle.at_atp_responder.specs.Once.{Event, Comes, Answers, next, same_key, stands}
-use Rattle.at_atp_responder.specs.Records.{Record, is_key, taken, answer_fault, asked_for}
+use Rattle.at_atp_responder.specs.Records.{Record, is_key, received, answer_fault, asked_for}
 use Rattle.at_atp_responder.specs.declared.reception.Key.{Key}
 
 -- nothing is sent for an answer that is refused
@@ -17,7 +17,7 @@ sent_unless None packets = packets
 
 -- what an event sends
 abbrev pub sent_by : List Record → Event → List (Address × Content)
-sent_by rs (Comes from f) = (taken rs from f).sent
+sent_by rs (Comes from f) = (received rs from f).sent
 sent_by rs (Answers key packets) =
     sent_unless (answer_fault rs key packets) (asked_for (find (is_key key) rs) key packets)
 sent_by rs other = []

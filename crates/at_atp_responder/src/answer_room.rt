@@ -12,7 +12,7 @@ use std::marker::Model;
 #[derive(Drop)]
 pub(crate) struct AnswerRoom<A: Allocator> {
     list: Vec<Packet<A>, A>,
-    places: Vec<Place<A>, A>,
+    places: Vec<PacketRoom<A>, A>,
 }
 
 impl<A: Allocator> Model for AnswerRoom<A> {
@@ -27,13 +27,13 @@ impl<A: Allocator> Model for AnswerRoom<A> {
 
 // Memory for the data of one packet.
 #[derive(Drop)]
-struct Place<A: Allocator> {
+struct PacketRoom<A: Allocator> {
     bytes: Vec<u8, A>,
     ghost empty: { vec_len bytes ≡ 0 },
     ghost holds: { 578 ≤ vec_capacity bytes },
 }
 
-impl<A: Allocator> Place<A> {
+impl<A: Allocator> PacketRoom<A> {
     // A copy of the packet, at this place.
     fn copy(self, packet: &Packet<A>) -> Packet<A>
         requires { length packet.now.data_ ≤ 578 }
@@ -52,7 +52,7 @@ impl<A: Allocator + Copy> AnswerRoom<A> {
         let mut places = Vec::with_capacity(alloc, PACKETS)?;
         for _ in 0..PACKETS {
             let bytes = Vec::with_capacity(alloc, MAX_DATA)?;
-            places.push_reserved(Place { bytes });
+            places.push_reserved(PacketRoom { bytes });
         }
         Ok(AnswerRoom { list, places })
     }

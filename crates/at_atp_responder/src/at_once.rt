@@ -4,7 +4,7 @@ ghost use Rattle.std.specs.Prelude.{◌≡◌, ◌≤◌, [], true, false, None,
 ghost use Rattle.at_ddp.specs.Outbox.{Sends};
 ghost use Rattle.at_atp_frame.specs.Frames.{content, spelled_all};
 ghost use Rattle.at_atp_responder.specs.AtOnce.{taken_new};
-ghost use Rattle.at_atp_responder.specs.Records.{finds_no_place, fit, is_key, is_new_and_full, responses, taken};
+ghost use Rattle.at_atp_responder.specs.Records.{finds_no_place, fit, is_key, is_new_and_full, responses, received};
 
 use crate::reception::{Key, NewRequest};
 use crate::record::send_answer;
@@ -17,7 +17,8 @@ use std::alloc::{AllocError, Allocator};
 impl<A: Allocator + Copy> Responder<A> {
     /// The request in a packet that came from this address, if it is new and at-least-once, and finds a place.
     pub fn new_request(&self, from: Address, frame: &Frame<'_>) -> Option<NewRequest>
-        ensures new { IfSome result (λ request. taken self.now from (content frame.now) ≡ taken_new self.now request) }
+        ensures new { IfSome result (λ request. received self.now from (content frame.now)
+            ≡ taken_new self.now request) }
         ensures apart { IfSome result (λ request. find (is_key request.key) self.now ≡ None) }
         ensures place { IsSome result → finds_no_place self.now from (content frame.now) ≡ false }
     {

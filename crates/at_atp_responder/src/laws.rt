@@ -5,7 +5,7 @@ ghost use Rattle.at_ddp.specs.declared.address.Address.{Address};
 ghost use Rattle.at_atp_frame.specs.Frames.{Content, number_of};
 ghost use Rattle.at_atp_responder.specs.Keys.{AreApart};
 ghost use Rattle.at_atp_responder.specs.Once.{Event, Expires, Undoes, stands, hand_ups, removes, removals, is_once};
-ghost use Rattle.at_atp_responder.specs.Records.{AsksForEight, Record, is_key, taken};
+ghost use Rattle.at_atp_responder.specs.Records.{AsksForEight, Record, is_key, received};
 ghost use Rattle.at_atp_responder.specs.AtOnce.{with_request};
 ghost use Rattle.at_atp_responder.specs.Records.{record_fault, after_answer, answer_fault, asked_for, responses};
 ghost use Rattle.at_atp_responder.specs.Replies.{AllOfAnswer};
@@ -20,8 +20,8 @@ use std::alloc::Allocator;
 
 /// A new request waits under its own key from then on, and nothing is sent for it.
 pub fn a_new_request_waits()
-    ensures { (rs : List Record) (from : Address) (f : Content) (key : Key) → (taken rs from f).reception ≡ New key
-        → (record_fault (find (is_key key) (taken rs from f).after) ≡ None) × ((taken rs from f).sent ≡ [])
+    ensures { (rs : List Record) (from : Address) (f : Content) (key : Key) → (received rs from f).reception ≡ New key
+        → (record_fault (find (is_key key) (received rs from f).after) ≡ None) × ((received rs from f).sent ≡ [])
         × (key ≡ record { from = from; tid = number_of f }) }
 {}
 
@@ -51,13 +51,13 @@ pub fn no_more_is_sent_than_answered()
 /// For a packet that came, or an answer to it, at most eight packets are sent.
 pub fn at_most_eight_packets_are_sent()
     ensures came { (rs : List Record) (from : Address) (f : Content) → AsksForEight f
-        → length (taken rs from f).sent ≤ 8 }
+        → length (received rs from f).sent ≤ 8 }
     ensures replied { (rs : List Record) (from : Address) (f : Content) (key : Key) (packets : List Packet)
-        → AsksForEight f → (taken rs from f).reception ≡ New key
-        → length (asked_for (find (is_key key) (taken rs from f).after) key packets) ≤ 8 }
+        → AsksForEight f → (received rs from f).reception ≡ New key
+        → length (asked_for (find (is_key key) (received rs from f).after) key packets) ≤ 8 }
 {}
 
-/// A request that is answered at once is sent what it would have been sent if it had waited, and leaves the records as it
+/// A request that is answered at once is sent what it would have been sent if it had waited. It leaves the records as it
 /// would have left them then.
 pub fn an_answer_at_once_leaves_no_record()
     ensures asked { (rs : List Record) (request : NewRequest) (packets : List Packet)

@@ -235,7 +235,7 @@ fn send_if<A: Allocator>(
         return;
     }
     let frame = Frame::Response {
-        place: sequence_number,
+        sequence_number,
         eom,
         sts: false,
         tid: key.tid,

@@ -5,7 +5,7 @@ ghost use Rattle.std.specs.Prelude.{IfOk, IfErr, IfSome, OnOk, OnErr, IsOk, IsEr
 ghost use Rattle.std.specs.List.{list_any, position_from};
 ghost use Rattle.std.specs.Option.{option_copied};
 ghost use Rattle.at_ddp.specs.Outbox.{Sends};
-ghost use Rattle.at_atp_responder.specs.Records.{Record as Kept, repeated, released, request_came, release_came};
+ghost use Rattle.at_atp_responder.specs.Records.{Record as Kept, repeated, request_came, release_came};
 ghost use Rattle.at_atp_responder.specs.Records.{is_new_and_full, IsRepeat, Waiting, is_key};
 ghost use Rattle.at_atp_responder.specs.Records.{state_fault, record_fault, expiry_fault, asked_bitmap};
 ghost use Rattle.at_atp_responder.specs.Records.{IsTaken, is_from, expiring_key};

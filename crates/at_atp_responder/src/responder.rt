@@ -4,7 +4,7 @@ ghost use Rattle.std.specs.Prelude.{IsErrOf, None, Err, ◌<◌, length, slice_g
 ghost use Rattle.std.specs.List.{list_any};
 ghost use Rattle.at_ddp.specs.Outbox.{Sends};
 ghost use Rattle.at_atp_frame.specs.Frames.{content, number_of};
-ghost use Rattle.at_atp_responder.specs.Records.{is_from, is_key, taken, finds_no_place, record_fault, expiry_fault};
+ghost use Rattle.at_atp_responder.specs.Records.{is_from, is_key, received, finds_no_place, record_fault, expiry_fault};
 ghost use Rattle.at_atp_responder.specs.Records.{IsTaken, expiring_key};
 ghost use Rattle.at_ddp.specs.Tables.{without_first};
 
@@ -56,15 +56,16 @@ impl<A: Allocator + Copy> Responder<A> {
         frame: &Frame<'_>,
         out: &mut Outbox<A>,
     ) -> Result<Reception, AtpFault>
-        ensures ok { IfOk result (λ r. IsTaken (taken self.old from (content frame.now)) r self.new out.old out.new) }
+        ensures ok { IfOk result (λ r. IsTaken (received self.old from (content frame.now)) r self.new out.old
+            out.new) }
         ensures full { IsErrOf result AtpFault.Full ↔ (finds_no_place self.old from (content frame.now) ≡ true) }
         ensures memory { IfErr result (λ fault. fault ≢ AtpFault.Full → fault ≡ AtpFault.NoMemory) }
         ensures unchanged { OnErr result (self.new ≡ self.old) }
         ensures nothing_sent { OnErr result (Sends out.old out.new []) }
 
         // A packet that has no effect needs no memory. Neither does a release, nor a repeat of a request that waits.
-        ensures ignored { (taken self.old from (content frame.now)).reception ≡ Reception.Ignored → IsOk result }
-        ensures released { (taken self.old from (content frame.now)).reception ≡ Reception.Released → IsOk result }
+        ensures ignored { (received self.old from (content frame.now)).reception ≡ Reception.Ignored → IsOk result }
+        ensures released { (received self.old from (content frame.now)).reception ≡ Reception.Released → IsOk result }
         ensures waits { record_fault (find (is_key (record { from = from; tid = number_of (content frame.now) }))
             self.old) ≡ None → IsOk result }
     {

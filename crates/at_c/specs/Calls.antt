@@ -10,7 +10,7 @@ use Rattle.at_held.specs.Openings.{IsFault}
 use Rattle.at_held.specs.Safety.{IsSafe}
 use Rattle.at_held.specs.declared.opening.OpenFault.{OpenFault}
 use Rattle.at_held.specs.declared.withheld.Withheld.{Withheld}
-use Rattle.at_steps.specs.Safety.{Place}
+use Rattle.at_steps.specs.Safety.{TransactionTable}
 use Rattle.at_nodes.specs.Taking.{Receives}
 
 -- The node in the handle is there after the call too, and this is so of it before and after. If the handle has none,
@@ -37,7 +37,7 @@ ReceivesBytes bytes status old new =
     × Happens (Receives bytes) old answer new
 
 -- an event that was done was safe
-abbrev pub IsSafeAt : (Place → Type 0) → Option HeldState → ℕ → Option HeldState → Type 0
+abbrev pub IsSafeAt : (TransactionTable → Type 0) → Option HeldState → ℕ → Option HeldState → Type 0
 IsSafeAt Wants (Some old) status (Some new) = status ≡ done → IsSafe Wants old new
 IsSafeAt Wants before status after = Unit {0}
 

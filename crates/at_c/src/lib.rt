@@ -7,7 +7,7 @@ ghost use Rattle.at_c.specs.Calls.{At, HandsLines, HandsNext, HandsRefusal, Hand
 ghost use Rattle.at_c.specs.Calls.{ReceivesBytes, Shows};
 ghost use Rattle.at_c.specs.Statuses.{done};
 ghost use Rattle.at_node.specs.Limits.{IsWithin};
-ghost use Rattle.at_steps.specs.Safety.{IsPlaceOf, IsPlaceOfCall};
+ghost use Rattle.at_steps.specs.Safety.{IsTableOf, IsTableOfCall};
 
 mod handle;
 mod opening;
@@ -58,7 +58,7 @@ pub extern "C" fn at_node_close(alloc: Global, handle: &mut AtNode)
 #[unsafe(no_mangle)]
 pub extern "C" fn at_node_play(alloc: Global, handle: &mut AtNode, line: &[u8]) -> u32
     ensures plays { At handle.old.node result handle.new.node (PlaysLine line.now result) }
-    ensures safe { IsSafeAt IsPlaceOfCall handle.old.node result handle.new.node }
+    ensures safe { IsSafeAt IsTableOfCall handle.old.node result handle.new.node }
     ensures within { IfSome handle.new.node (λ held. IsWithin held.node) }
 {
     let Some(mut node) = handle.take(alloc) else {
@@ -73,7 +73,7 @@ pub extern "C" fn at_node_play(alloc: Global, handle: &mut AtNode, line: &[u8]) 
 #[unsafe(no_mangle)]
 pub extern "C" fn at_node_receive(alloc: Global, handle: &mut AtNode, bytes: &[u8]) -> u32
     ensures receives { At handle.old.node result handle.new.node (ReceivesBytes bytes.now result) }
-    ensures safe { IsSafeAt (IsPlaceOf bytes.now) handle.old.node result handle.new.node }
+    ensures safe { IsSafeAt (IsTableOf bytes.now) handle.old.node result handle.new.node }
     ensures within { IfSome handle.new.node (λ held. IsWithin held.node) }
 {
     let Some(mut node) = handle.take(alloc) else {

@@ -3,7 +3,7 @@ use crate::schedules::{ZONE_LIST, setup_of};
 use at_cable::MemoryCable;
 use at_drive::{Drive, Log, Step};
 use at_event::{Call, Report, TransactionReport, ZoneCall, ZoneReport};
-use at_zip::Which;
+use at_zip::TableChoice;
 use std::alloc::{AllocError, Global};
 use std::process::Abort;
 use std::test::Fail;
@@ -11,7 +11,9 @@ use std::test::Fail;
 // Node 5 asks for the zone list.
 const ASK: Step = Step::Call {
     node: 5,
-    call: Call::Zones(ZoneCall::Read { which: Which::All }),
+    call: Call::Zones(ZoneCall::Read {
+        which: TableChoice::All,
+    }),
 };
 
 // The log of a step at which node 5 asked its router, and what the router did at the next one.

@@ -3,8 +3,8 @@ use at_event::{Call, ZoneCall};
 use at_print::{Printer, write_event};
 use at_schedule::read_setup;
 use at_setup::Setup;
-use at_world::{Event, Fault, Refusal, Transcript, play};
-use at_zip::Which;
+use at_world::{Event, EventFault, Refusal, Transcript, play};
+use at_zip::TableChoice;
 use std::alloc::Global;
 use std::process::Abort;
 
@@ -34,18 +34,29 @@ const SETUP: &[u8] = b"net 10\nnode 1 router zone Lab\nnode 5 zone Lab\nzones La
 const EVENTS: [Event; 4] = [
     Event::Call {
         node: 5,
-        call: Call::Zones(ZoneCall::Read { which: Which::All }),
+        call: Call::Zones(ZoneCall::Read {
+            which: TableChoice::All,
+        }),
     },
-    Event::Deliver { which: 0, node: 1 },
-    Event::Deliver { which: 1, node: 5 },
-    Event::Deliver { which: 2, node: 5 },
+    Event::Deliver {
+        datagram: 0,
+        node: 1,
+    },
+    Event::Deliver {
+        datagram: 1,
+        node: 5,
+    },
+    Event::Deliver {
+        datagram: 2,
+        node: 5,
+    },
 ];
 
 fn compare_stopped(rt: &impl Abort, alloc: Global, setup: &Setup, events: &[Event]) {
     assert!(rt; setup.is_lawful());
     let stopped = play(alloc, setup, events).err();
     let stopped = stopped.expect(rt, "played to the end");
-    let no_datagram = Fault::Refused(Refusal::NoDatagram);
+    let no_datagram = EventFault::Refused(Refusal::NoDatagram);
     assert!(rt; (stopped.fault, stopped.at) == (no_datagram, 3));
     compare(rt, alloc, &stopped.transcript);
 }

@@ -1,5 +1,5 @@
 -- What the items of a stream are spelled by, one after the other.
-use Rattle.std.proofs.Common.{◌≡◌, ◌<◌, ◌≤◌, ℕ, ◌+◌, ◌%◌, Bool, true, false, cond, inl, inr, filter, codes, List, []}
+use Rattle.std.proofs.Common.{◌≡◌, ◌<◌, ◌≤◌, ℕ, ◌+◌, ◌%◌, Bool, true, false, cond, filter, List, []}
 use Rattle.std.proofs.Common.{◌∷◌, ◌++◌, length, take, drop, map, Ok, refl, sym, ap, subst, ◌∙◌, append-nil}
 use Rattle.std.proofs.Common.{append_assoc, arith, length-append, length-take-le, slice_index, take-append-drop}
 use Rattle.std.proofs.lemmas.List.{map-append, take_all, take_more}
@@ -28,9 +28,6 @@ run_more (v ∷ ws) items run w (first, rest, its, parts, are) is =
 -- the words before these spell the items so far
 abbrev pub ItemsSoFar : List (List ℕ) → List (List ℕ) → List Item → Type 0
 ItemsSoFar all rest items = (said : List (List ℕ)) × (all ≡ said ++ rest) × AreItems said items
-
-pub no_items : (all : List (List ℕ)) → ItemsSoFar all all []
-no_items all = ([], refl, refl)
 
 pub next_items : (all rest left : List (List ℕ)) (items more run : List Item) (word : List ℕ)
     → ItemsSoFar all rest items → rest ≡ word ∷ left → IsRun word run → more ≡ items ++ run → ItemsSoFar all left more
@@ -69,13 +66,6 @@ kept p w (x ∷ xs) ys h = kept_by (p x) p x w xs ys refl (kept p w xs ys) h
 pub word_has_bytes : (line word : List ℕ) (left : List (List ℕ)) → words_of line ≡ word ∷ left → 0 < length word
 word_has_bytes line [] left h = let bytes = kept has_bytes [] (slice_split is_space line) left h in cc
 word_has_bytes line (c ∷ word) left h = omega arith
-
--- a word of neither kind that spells no bytes spells no run
-pub no_run_of : (word : List ℕ) → ¬ (word ≡ codes "end") → ¬ (word ≡ codes "-")
-    → ((bytes : List ℕ) → ¬ (decode_of word ≡ Ok bytes)) → (run : List Item) → ¬ IsRun word run
-no_run_of word no_end no_dash never run (inl (end, is)) = no_end end
-no_run_of word no_end no_dash never run (inr (bytes, inl (dash, none), is)) = no_dash dash
-no_run_of word no_end no_dash never run (inr (bytes, inr (some, decoded), is)) = never bytes decoded
 
 -- ---- pairs of digits
 

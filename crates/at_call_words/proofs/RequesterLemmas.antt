@@ -1,5 +1,5 @@
 -- Words that name no requester, and words that name one of this network.
-use Rattle.std.proofs.Common.{◌≡◌, ◌≢◌, ℕ, List, [], ◌∷◌, Ok, Err, Result, refl}
+use Rattle.std.proofs.Common.{◌≢◌, ℕ, List, [], ◌∷◌, Ok, Err, Result, refl}
 use Rattle.std.specs.Prelude.{codes, IfOk}
 use Rattle.at_event.specs.declared.Call.{Call}
 use Rattle.at_event.specs.declared.Call.TheVariants as call

@@ -8,15 +8,15 @@ use Rattle.std.proofs.lemmas.Result.{err_from_is_err_and}
 use Rattle.std.specs.List.{AllZip}
 use Rattle.at_faults.specs.declared.fault.LineFault.{LineFault}
 use Rattle.at_faults.specs.declared.fault.LineFault.TheVariants.{NoMemory, Unlawful}
-use Rattle.at_faults.specs.declared.rule.Rule.{Rule}
 use Rattle.at_words.specs.Readings.{IsFound}
 use Rattle.at_call_words.specs.Readings.{IfUnlawful, IsFoundInMemory}
 
 -- what was found by a reader of options, told as a result
-pub in_memory : {T : Type 0} (P : T → Type 0) (o : Option T) (rule : Rule) (r : Result T LineFault) → r
-    ≡ ok_or o (Unlawful rule) → IsFound o P → IsFoundInMemory r P
-in_memory P (Some x) rule r is found = rw is found
-in_memory P None rule r is nothing = rw is nothing
+pub in_memory : {T : Type 0} (P : T → Type 0) (o : Option T) (fault : LineFault) (r : Result T LineFault)
+    → r ≡ ok_or o fault → IsFound o P → IsFoundInMemory r P
+in_memory P (Some x) fault r is found = rw is found
+in_memory P None (Unlawful rule) r is nothing = rw is nothing
+in_memory P None NoMemory r is nothing = rw is tt
 
 -- what the exit of a `?` returns
 pub exit_of : {T : Type 0} (r : Result T LineFault) (fault : LineFault) → IsErrAnd r (λ f. f ≡ fault) → r ≡ Err fault

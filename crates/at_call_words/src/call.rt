@@ -8,14 +8,16 @@ ghost use Rattle.at_words.specs.Words.{words_of};
 use crate::call::answers::answer;
 use crate::call::asks::ask;
 use crate::call::names::{claim_call, find_call, finish_call, register_call, unregister_call};
-use crate::call::session::{open_call, pick_call};
-use crate::call::streams::{close_call, connect_call, listen_call, read_call, reset_call, write};
+use crate::call::session::pick_call;
+use crate::call::streams::{
+    close_call, connect_call, listen_call, open_call, read_call, reset_call, write,
+};
 use crate::call::tables::{set_zones, zones};
 use crate::requester::Requesters;
-use at_event::Call;
+use at_event::{Call, EventRule, ZoneRule};
 use at_faults::{LineFault, Rule};
 use at_words::{Words, is_word};
-use at_zip::Which;
+use at_zip::TableChoice;
 use std::alloc::Allocator;
 
 mod answers;
@@ -59,7 +61,9 @@ fn call_by<A: Allocator + Copy>(
 ) -> Result<Call<A>, LineFault>
     ensures { IsFoundInMemory result (AreCallBy (Names requesters net) (words_of words.entry.rest.now)) }
 {
-    let word = words.next().ok_or(LineFault::Unlawful(Rule::Call))?;
+    let word = words
+        .next()
+        .ok_or(LineFault::Unlawful(Rule::Event(EventRule::Call)))?;
     if is_word(word, b"answer") {
         return answer(alloc, requesters, net, words);
     }
@@ -76,16 +80,16 @@ fn said_by<A: Allocator + Copy>(
     ensures { IsFoundInMemory result (SaysPlain word.now (words_of words.entry.rest.now)) }
 {
     if is_word(word, b"zones") {
-        return zones(Which::All, Rule::CallZones, words);
+        return zones(TableChoice::All, ZoneRule::Zones, words);
     }
     if is_word(word, b"setzones") {
-        return set_zones(alloc, Which::All, Rule::SetZones, words);
+        return set_zones(alloc, TableChoice::All, ZoneRule::SetZones, words);
     }
     if is_word(word, b"localzones") {
-        return zones(Which::Local, Rule::CallLocalZones, words);
+        return zones(TableChoice::Local, ZoneRule::LocalZones, words);
     }
     if is_word(word, b"setlocal") {
-        return set_zones(alloc, Which::Local, Rule::SetLocal, words);
+        return set_zones(alloc, TableChoice::Local, ZoneRule::SetLocal, words);
     }
     if is_word(word, b"ask") {
         return ask(alloc, words);
@@ -129,5 +133,5 @@ fn said_by<A: Allocator + Copy>(
     if is_word(word, b"close") {
         return close_call(words);
     }
-    Err(LineFault::Unlawful(Rule::Call))
+    Err(LineFault::Unlawful(Rule::Event(EventRule::Call)))
 }

@@ -10,7 +10,10 @@ ghost use Rattle.at_words.specs.Words.{words_of};
 use crate::requester::{Requesters, requester};
 use crate::words::{one, three};
 use at_atp::Key;
-use at_event::{NameTimer, StreamTimer, Timer, TransactionTimer};
+use at_event::{
+    EventRule, NameRule, NameTimer, StreamRule, StreamTimer, Timer, TransactionRule,
+    TransactionTimer,
+};
 use at_faults::Rule;
 use at_words::{Words, byte, is_word, two_bytes};
 
@@ -33,9 +36,11 @@ pub fn timer_of_any(net: u16, words: Words<'_>) -> Result<Timer, Rule>
 fn timer_by(requesters: Requesters, net: u16, mut words: Words<'_>) -> Result<Timer, Rule>
     ensures { IsFoundLawful result (AreTimerBy (Names requesters net) (words_of words.entry.rest.now)) }
 {
-    let word = words.next().ok_or(Rule::Timer)?;
+    let word = words.next().ok_or(Rule::Event(EventRule::Timer))?;
     if is_word(word, b"release") {
-        return release(requesters, net, words).ok_or(Rule::Release);
+        return release(requesters, net, words).ok_or(Rule::Event(EventRule::Transactions(
+            TransactionRule::Release,
+        )));
     }
     said_by(word, words)
 }
@@ -45,15 +50,15 @@ fn said_by(word: &[u8], words: Words<'_>) -> Result<Timer, Rule>
     ensures { IsFoundLawful result (SaysPlainTimer word.now (words_of words.entry.rest.now)) }
 {
     if is_word(word, b"retry") {
-        retry(words).ok_or(Rule::Retry)
+        retry(words).ok_or(Rule::Event(EventRule::Transactions(TransactionRule::Retry)))
     } else if is_word(word, b"lookup") {
-        lookup(words).ok_or(Rule::Lookup)
+        lookup(words).ok_or(Rule::Event(EventRule::Names(NameRule::Lookup)))
     } else if is_word(word, b"resend") {
-        resend(words).ok_or(Rule::Resend)
+        resend(words).ok_or(Rule::Event(EventRule::Streams(StreamRule::Resend)))
     } else if is_word(word, b"probe") {
-        probe(words).ok_or(Rule::Probe)
+        probe(words).ok_or(Rule::Event(EventRule::Streams(StreamRule::Probe)))
     } else {
-        Err(Rule::Timer)
+        Err(Rule::Event(EventRule::Timer))
     }
 }
 

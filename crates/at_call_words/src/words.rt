@@ -1,5 +1,5 @@
 //! So many words and no more, and known words.
-ghost use Rattle.std.specs.Prelude.{◌≡◌, ◌↔◌, ◌∷◌, [], List, ℕ, true, IfSome, IsNone};
+ghost use Rattle.std.specs.Prelude.{◌≡◌, ◌∷◌, [], List, ℕ, IfSome, IsNone};
 ghost use Rattle.at_words.specs.Words.{words_of};
 
 use at_words::Words;

@@ -7,9 +7,9 @@ use Rattle.at_capture.specs.Captures.{TellsCapture, diagnostics_of, printer_of}
 use Rattle.at_capture.specs.Endings.{TellsEnding, ending_line}
 use Rattle.at_capture.specs.Tallies.{counted, end_line, tally_of}
 use Rattle.at_capture.specs.Frames.{Content, frame_of}
-use Rattle.at_capture.specs.Texts.{FramesText, Next, NoMore, TellsKinds}
+use Rattle.at_capture.specs.Texts.{FramesText, Next, NoMore, TellsVerdicts}
 use Rattle.at_capture.specs.declared.capture_printer.CapturePrinter.{CapturePrinter}
-use Rattle.at_capture.specs.declared.tally.FrameKind.{FrameKind}
+use Rattle.at_capture.specs.declared.tally.FrameVerdict.{FrameVerdict}
 use Rattle.at_diagnostics.specs.Diagnostics.{TellsWrites}
 use Rattle.at_diagnostics.specs.declared.diagnostics.Diagnostics.{Diagnostics}
 use Rattle.std.specs.List.{FoldsTo}
@@ -36,13 +36,13 @@ adds_all (f ∷ fs) done = (
 
 -- these frames were printed, behind others that were counted as these
 pub record Printed {W E A : Type 0} (page : W → Page) (heard : E → Page) (before : List Content)
-    (kinds : List FrameKind) (frames : List Content) (old new : CapturePrinter W E A) : Type 0 where
-  pub more : List FrameKind
+    (verdicts : List FrameVerdict) (frames : List Content) (old new : CapturePrinter W E A) : Type 0 where
+  pub more : List FrameVerdict
   pub text : List ℕ
   pub are : FramesText before frames more text
   pub prints : Prints page (printer_of old) (printer_of new) text
-  pub told : TellsKinds heard more (diagnostics_of old) (diagnostics_of new)
-  pub counts : HasPrinted (before ++ frames) (kinds ++ more) new
+  pub told : TellsVerdicts heard more (diagnostics_of old) (diagnostics_of new)
+  pub counts : HasPrinted (before ++ frames) (verdicts ++ more) new
   pub as_many : length more ≡ length frames
 
 -- the frames of what was read of a capture, which were printed
@@ -67,45 +67,47 @@ module _ {W E A : Type 0} (page : W → Page) (heard : E → Page) where
   abbrev takes : CapturePrinter W E A → Captured → CapturePrinter W E A → Type 0
   takes old f new = PrintsFrame page heard (frame_of f) old new
 
-  nothing : (before : List Content) (kinds : List FrameKind) (s : CapturePrinter W E A) → HasPrinted before kinds s
-      → Printed page heard before kinds [] s s
-  nothing before kinds s counts = record {
+  nothing : (before : List Content) (verdicts : List FrameVerdict) (s : CapturePrinter W E A)
+      → HasPrinted before verdicts s
+      → Printed page heard before verdicts [] s s
+  nothing before verdicts s counts = record {
     more = [];
     text = [];
     are = NoMore before;
     prints = Prints-nothing page (printer_of s);
     told = refl;
-    counts = subst (λ l. HasPrinted l (kinds ++ []) s) (sym (append-nil before))
-        (subst (λ l. HasPrinted before l s) (sym (append-nil kinds)) counts);
+    counts = subst (λ l. HasPrinted l (verdicts ++ []) s) (sym (append-nil before))
+        (subst (λ l. HasPrinted before l s) (sym (append-nil verdicts)) counts);
     as_many = refl;
   }
 
-  one_more : (before : List Content) (kinds : List FrameKind) (f : Content) (frames : List Content)
-      (old mid new : CapturePrinter W E A) → (next : PrintsNext page heard before kinds f old mid)
-      → Printed page heard (before ++ f ∷ []) (kinds ++ next.kind ∷ []) frames mid new
-      → Printed page heard before kinds (f ∷ frames) old new
-  one_more before kinds f frames old mid new next rest = record {
-    more = next.kind ∷ rest.more;
+  one_more : (before : List Content) (verdicts : List FrameVerdict) (f : Content) (frames : List Content)
+      (old mid new : CapturePrinter W E A) → (next : PrintsNext page heard before verdicts f old mid)
+      → Printed page heard (before ++ f ∷ []) (verdicts ++ next.verdict ∷ []) frames mid new
+      → Printed page heard before verdicts (f ∷ frames) old new
+  one_more before verdicts f frames old mid new next rest = record {
+    more = next.verdict ∷ rest.more;
     text = next.text ++ rest.text;
-    are = Next before f frames next.answered next.kind rest.more next.text rest.text next.answers next.is rest.are;
+    are = Next before f frames next.answered next.verdict rest.more next.text rest.text next.answers next.is rest.are;
     prints = Prints-trans page (printer_of old) (printer_of mid) (printer_of new) next.text rest.text next.printed
         rest.prints;
     told = (diagnostics_of mid, next.told, rest.told);
-    counts = subst (λ l. HasPrinted l (kinds ++ next.kind ∷ rest.more) new) (append_assoc before (f ∷ []) frames)
+    counts = subst (λ l. HasPrinted l (verdicts ++ next.verdict ∷ rest.more) new) (append_assoc before (f ∷ []) frames)
         (subst (λ l. HasPrinted ((before ++ f ∷ []) ++ frames) l new)
-        (append_assoc kinds (next.kind ∷ []) rest.more) rest.counts);
+        (append_assoc verdicts (next.verdict ∷ []) rest.more) rest.counts);
     as_many = ap suc rest.as_many;
   }
 
-  printed_all : (fs : List Captured) (before : List Content) (kinds : List FrameKind) (old new : CapturePrinter W E A)
-      → HasPrinted before kinds old → FoldsTo takes old fs new
-      → Printed page heard before kinds (map frame_of fs) old new
-  printed_all [] before kinds old new counts taken =
-      subst (λ s. Printed page heard before kinds [] old s) taken (nothing before kinds old counts)
-  printed_all (f ∷ fs) before kinds old new counts taken =
-      let next = taken.1 before kinds counts in
-      one_more before kinds (frame_of f) (map frame_of fs) old taken.0 new next
-      (printed_all fs (before ++ frame_of f ∷ []) (kinds ++ next.kind ∷ []) taken.0 new next.counts taken.2)
+  printed_all : (fs : List Captured) (before : List Content) (verdicts : List FrameVerdict)
+      (old new : CapturePrinter W E A)
+      → HasPrinted before verdicts old → FoldsTo takes old fs new
+      → Printed page heard before verdicts (map frame_of fs) old new
+  printed_all [] before verdicts old new counts taken =
+      subst (λ s. Printed page heard before verdicts [] old s) taken (nothing before verdicts old counts)
+  printed_all (f ∷ fs) before verdicts old new counts taken =
+      let next = taken.1 before verdicts counts in
+      one_more before verdicts (frame_of f) (map frame_of fs) old taken.0 new next
+      (printed_all fs (before ++ frame_of f ∷ []) (verdicts ++ next.verdict ∷ []) taken.0 new next.counts taken.2)
 
   -- nothing more was printed
   kept : (frames : List Content) (old mid new : CapturePrinter W E A) → (new ≡ mid) ⊎ IsUnprinted mid new
@@ -117,7 +119,7 @@ module _ {W E A : Type 0} (page : W → Page) (heard : E → Page) where
     text = printed.text;
     are = printed.are;
     prints = subst (λ q. Prints page (printer_of old) q printed.text) (sym same.printer) printed.prints;
-    told = subst (TellsKinds heard printed.more (diagnostics_of old)) (sym same.diagnostics) printed.told;
+    told = subst (TellsVerdicts heard printed.more (diagnostics_of old)) (sym same.diagnostics) printed.told;
     counts = same.counts frames printed.more printed.counts;
     as_many = printed.as_many;
   }
@@ -216,14 +218,14 @@ module _ {W E A : Type 0} (page : W → Page) (heard : E → Page) where
         frames = told.frames;
         read = read;
         has = told.has;
-        kinds = first.more;
+        verdicts = first.more;
         text = first.text;
         are = first.are;
         printed = Prints-trans page (printer_of old) (printer_of mid) (printer_of new) first.text _ lines ending;
         done = done;
         refused = diagnostics_of mid;
         ended = after.0;
-        refusals = subst (λ d. TellsKinds heard first.more d (diagnostics_of mid)) diagnostics first.told;
+        refusals = subst (λ d. TellsVerdicts heard first.more d (diagnostics_of mid)) diagnostics first.told;
         ending = after.1;
         writes = after.2;
       }

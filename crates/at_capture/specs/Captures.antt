@@ -4,9 +4,9 @@ use Rattle.at_capture.specs.Asked.{IsAnswered, Recalls}
 use Rattle.at_capture.specs.Endings.{TellsEnding, ending_line}
 use Rattle.at_capture.specs.Frames.{Content, frame_of}
 use Rattle.at_capture.specs.Tallies.{counted, end_line, tally_of}
-use Rattle.at_capture.specs.Texts.{FrameText, FramesText, TellsKind, TellsKinds}
+use Rattle.at_capture.specs.Texts.{FrameText, FramesText, TellsVerdict, TellsVerdicts}
 use Rattle.at_capture.specs.declared.capture_printer.CapturePrinter.{CapturePrinter}
-use Rattle.at_capture.specs.declared.tally.FrameKind.{FrameKind}
+use Rattle.at_capture.specs.declared.tally.FrameVerdict.{FrameVerdict}
 use Rattle.at_diagnostics.specs.Diagnostics.{TellsWrites}
 use Rattle.at_diagnostics.specs.declared.diagnostics.Diagnostics.{Diagnostics}
 use Rattle.at_pcap.specs.Files.{HoldsFile, TellsFile}
@@ -46,49 +46,49 @@ pub record TellsCapture {W E A : Type 0} (page : W → Page) (heard : E → Page
   pub frames : List Content
   pub read : Result (Unit {0}) CaptureError
   pub has : HasFrames known frames read
-  pub kinds : List FrameKind
+  pub verdicts : List FrameVerdict
   pub text : List ℕ
-  pub are : FramesText [] frames kinds text
+  pub are : FramesText [] frames verdicts text
   pub printed : Prints page (printer_of old) (printer_of new)
-      (text ++ (ending_line (counted (length frames)) read ++ end_line (tally_of kinds)))
+      (text ++ (ending_line (counted (length frames)) read ++ end_line (tally_of verdicts)))
   pub done : (status ≡ Done) ↔ (IsOk read × ¬ HasFailed (printer_of new))
   pub refused : Diagnostics E
   pub ended : Diagnostics E
-  pub refusals : TellsKinds heard kinds (diagnostics_of old) refused
+  pub refusals : TellsVerdicts heard verdicts (diagnostics_of old) refused
   pub ending : TellsEnding heard read refused ended
   pub writes : TellsWrites heard (printer_of new) ended (diagnostics_of new)
 
 -- ---- the step of one frame
 
 -- these frames were printed and counted as these, and what they ask is kept
-pub record HasPrinted {W E A : Type 0} (frames : List Content) (kinds : List FrameKind) (s : CapturePrinter W E A)
+pub record HasPrinted {W E A : Type 0} (frames : List Content) (verdicts : List FrameVerdict) (s : CapturePrinter W E A)
     : Type 0 where
-  pub tally : s.tally ≡ tally_of kinds
-  pub as_many : length kinds ≡ length frames
+  pub tally : s.tally ≡ tally_of verdicts
+  pub as_many : length verdicts ≡ length frames
   pub recalls : Recalls frames s.asked
 
 -- a frame is printed and counted, behind those that were
 pub record PrintsNext {W E A : Type 0} (page : W → Page) (heard : E → Page) (frames : List Content)
-    (kinds : List FrameKind) (f : Content) (old new : CapturePrinter W E A) : Type 0 where
+    (verdicts : List FrameVerdict) (f : Content) (old new : CapturePrinter W E A) : Type 0 where
   pub answered : Option ℕ
-  pub kind : FrameKind
+  pub verdict : FrameVerdict
   pub text : List ℕ
   pub answers : IsAnswered frames f answered
-  pub is : FrameText (counted (length frames + 1)) answered f kind text
+  pub is : FrameText (counted (length frames + 1)) answered f verdict text
   pub printed : Prints page (printer_of old) (printer_of new) text
-  pub told : TellsKind heard kind (diagnostics_of old) (diagnostics_of new)
-  pub counts : HasPrinted (frames ++ f ∷ []) (kinds ++ kind ∷ []) new
+  pub told : TellsVerdict heard verdict (diagnostics_of old) (diagnostics_of new)
+  pub counts : HasPrinted (frames ++ f ∷ []) (verdicts ++ verdict ∷ []) new
 
 -- the same of any frames that were
 abbrev pub PrintsFrame : {W E A : Type 0} → (W → Page) → (E → Page) → Content → CapturePrinter W E A
     → CapturePrinter W E A → Type 0
 PrintsFrame page heard f old new =
-    (frames : List Content) (kinds : List FrameKind) → HasPrinted frames kinds old
-    → PrintsNext page heard frames kinds f old new
+    (frames : List Content) (verdicts : List FrameVerdict) → HasPrinted frames verdicts old
+    → PrintsNext page heard frames verdicts f old new
 
 -- nothing is printed or counted
 pub record IsUnprinted {W E A : Type 0} (old new : CapturePrinter W E A) : Type 0 where
   pub printer : printer_of new ≡ printer_of old
   pub diagnostics : diagnostics_of new ≡ diagnostics_of old
-  pub counts : (frames : List Content) (kinds : List FrameKind) → HasPrinted frames kinds old
-      → HasPrinted frames kinds new
+  pub counts : (frames : List Content) (verdicts : List FrameVerdict) → HasPrinted frames verdicts old
+      → HasPrinted frames verdicts new

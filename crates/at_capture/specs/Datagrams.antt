@@ -8,11 +8,10 @@ use Rattle.at_frames.specs.ShortFaults.{IsFirstFault, number_of}
 use Rattle.at_frames.specs.declared.carried.Header.{Header}
 use Rattle.at_frames.specs.declared.carried.Header.TheVariants.{Long, Short}
 use Rattle.at_frames.specs.declared.short_fault.ShortFault.{ShortFault}
-use Rattle.at_show.specs.Data.{IsReadable}
+use Rattle.at_print.specs.Refusals.{refusal_line}
+use Rattle.at_print.specs.Reports.{DataText, IsReadable}
 use Rattle.at_show.specs.Shown.{IsSound}
 use Rattle.at_show.specs.Texts.{BytesText}
-use Rattle.at_show.specs.Data.{DataText}
-use Rattle.at_show.specs.Refusals.{refusal_line}
 
 -- the bytes begin with this datagram, by the header that its frame says, and then rest
 abbrev pub BeginsBy : Header → List ℕ → Content → List ℕ → Type 0

@@ -2,8 +2,8 @@
 use Rattle.std.specs.Prelude.{ℕ, ◌-◌, ◌^◌, min, Bool, true, false, List, [], ◌∷◌, length, count_by, codes}
 use Rattle.std.specs.Fmt.{decimal}
 use Rattle.std.specs.List.{concat}
-use Rattle.at_capture.specs.declared.tally.FrameKind.{FrameKind}
-use Rattle.at_capture.specs.declared.tally.FrameKind.TheVariants.{Shown, Refused, Other}
+use Rattle.at_capture.specs.declared.tally.FrameVerdict.{FrameVerdict}
+use Rattle.at_capture.specs.declared.tally.FrameVerdict.TheVariants.{Shown, Refused, Other}
 use Rattle.at_capture.specs.declared.tally.Tally.{Tally}
 use Rattle.at_print.specs.declared.status.Status.{Status}
 use Rattle.at_print.specs.declared.status.Status.TheVariants.{Done, Failed}
@@ -13,33 +13,33 @@ abbrev pub counted : ℕ → ℕ
 counted n = min n (2 ^ 64 - 1)
 
 -- the frame carries no datagram
-abbrev pub is_other : FrameKind → Bool
+abbrev pub is_other : FrameVerdict → Bool
 is_other Other = true
-is_other kind = false
+is_other verdict = false
 
 -- the frame carries a datagram, refused or not
-abbrev pub is_datagram : FrameKind → Bool
+abbrev pub is_datagram : FrameVerdict → Bool
 is_datagram Other = false
-is_datagram kind = true
+is_datagram verdict = true
 
 -- the datagram or its packet was refused
-abbrev pub is_refused : FrameKind → Bool
+abbrev pub is_refused : FrameVerdict → Bool
 is_refused Refused = true
-is_refused kind = false
+is_refused verdict = false
 
 -- all frames, those with a datagram, those of them that were refused, and those without one
-abbrev pub tally_of : List FrameKind → Tally
-tally_of kinds = record {
-  frames = counted (length kinds);
-  datagrams = counted (count_by is_datagram kinds);
-  refused = counted (count_by is_refused kinds);
-  others = counted (count_by is_other kinds);
+abbrev pub tally_of : List FrameVerdict → Tally
+tally_of verdicts = record {
+  frames = counted (length verdicts);
+  datagrams = counted (count_by is_datagram verdicts);
+  refused = counted (count_by is_refused verdicts);
+  others = counted (count_by is_other verdicts);
 }
 
 -- what a frame is counted as whose datagram was shown with this status
-abbrev pub kind_of : Status → FrameKind
-kind_of Done = Shown
-kind_of Failed = Refused
+abbrev pub verdict_of : Status → FrameVerdict
+verdict_of Done = Shown
+verdict_of Failed = Refused
 
 -- the last line
 abbrev pub end_line : Tally → List ℕ

@@ -118,14 +118,14 @@ impl<W: Paper, E: Paper, A: Allocator + Copy> Sink for CapturePrinter<'_, W, E, 
         let frame = Frame::of(header, bytes);
         let number = self.tally.frames.saturating_add(1);
         let answered = take_role(&mut self.asked, role_of(frame), number)?;
-        let kind = write_frame(
+        let verdict = write_frame(
             number,
             frame,
             answered,
             &mut self.printer,
             &mut self.diagnostics,
         );
-        self.tally = self.tally.with(kind);
+        self.tally = self.tally.with(verdict);
         Ok(())
     }
 }

@@ -3,8 +3,7 @@ ghost use Rattle.std.specs.Prelude.{◌≡◌, ◌↔◌, ◌++◌, List, ℕ};
 ghost use Rattle.at_capture.specs.Datagrams.{DatagramText, IsSoundBy, IsSoundShort, ShortText, short_line};
 ghost use Rattle.at_ddp.specs.Datagram.{content};
 ghost use Rattle.at_print.specs.Printers.{Prints};
-ghost use Rattle.at_show.specs.Data.{IsReadable};
-ghost use Rattle.at_show.specs.Data.{DataText};
+ghost use Rattle.at_print.specs.Reports.{DataText, IsReadable};
 ghost use Rattle.at_show.specs.Told.{TellsWhy};
 
 use at_ddp::Datagram;

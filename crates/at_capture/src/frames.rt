@@ -1,13 +1,13 @@
 //! What is printed of a frame.
 ghost use Rattle.std.specs.Prelude.{List, ℕ};
 ghost use Rattle.at_capture.specs.Frames.{content};
-ghost use Rattle.at_capture.specs.Texts.{FrameText, TellsKind};
+ghost use Rattle.at_capture.specs.Texts.{FrameText, TellsVerdict};
 ghost use Rattle.at_print.specs.Printers.{Prints};
 
 use crate::datagram_lines::show_carried;
 use crate::frame::Frame;
 use crate::frame_lines::{write_answer, write_carried, write_other};
-use crate::tally::{FrameKind, kind_of};
+use crate::tally::{FrameVerdict, verdict_of};
 use at_diagnostics::Diagnostics;
 use at_frames::datagram_in;
 use at_print::{Paper, Printer};
@@ -19,10 +19,10 @@ pub(crate) fn write_frame<W: Paper, E: Paper>(
     answered: Option<u64>,
     printer: &mut Printer<W>,
     diagnostics: &mut Diagnostics<'_, E>,
-) -> FrameKind
+) -> FrameVerdict
     ensures printed { (text : List ℕ) × FrameText number answered (content frame.entry) result text
         × Prints W.page printer.old printer.new text }
-    ensures told { TellsKind E.page result diagnostics.old diagnostics.new }
+    ensures told { TellsVerdict E.page result diagnostics.old diagnostics.new }
 {
     match datagram_in(frame.link_type, frame.bytes) {
         Ok(carried) => {
@@ -35,11 +35,11 @@ pub(crate) fn write_frame<W: Paper, E: Paper>(
             );
             let status = show_carried(carried.header, carried.bytes, printer, diagnostics);
             write_answer(printer, answered);
-            kind_of(status)
+            verdict_of(status)
         }
         Err(reason) => {
             write_other(printer, number, frame.time, reason);
-            FrameKind::Other
+            FrameVerdict::Other
         }
     }
 }

@@ -18,4 +18,4 @@ mod time;
 
 pub use capture_printer::CapturePrinter;
 pub use frame::Frame;
-pub use tally::{FrameKind, Tally};
+pub use tally::{FrameVerdict, Tally};

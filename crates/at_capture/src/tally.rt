@@ -1,14 +1,14 @@
-//! How many frames there are of each kind.
+//! How many frames there are of each verdict.
 ghost use Rattle.std.specs.Prelude.{◌≡◌, ◌++◌, ◌∷◌, [], List};
-ghost use Rattle.at_capture.specs.Tallies.{end_line, kind_of, tally_of};
-ghost use Rattle.at_capture.specs.declared.tally.FrameKind.{FrameKind as Kind};
+ghost use Rattle.at_capture.specs.Tallies.{end_line, verdict_of, tally_of};
+ghost use Rattle.at_capture.specs.declared.tally.FrameVerdict.{FrameVerdict as Verdict};
 ghost use Rattle.at_print.specs.Printers.{Prints};
 
 use at_print::{Paper, Part, Printer, Status};
 
 /// What a frame is counted as.
 #[derive(Clone, Copy, Debug, PartialEq, Eq)]
-pub enum FrameKind {
+pub enum FrameVerdict {
     /// It carries a datagram, which was shown whole.
     Shown,
     /// It carries a datagram, which was refused, or whose packet was.
@@ -17,7 +17,7 @@ pub enum FrameKind {
     Other,
 }
 
-/// How many frames there are, of each kind. A count stops at the largest number of 64 bits.
+/// How many frames there are, of each verdict. A count stops at the largest number of 64 bits.
 #[derive(Clone, Copy, Debug, PartialEq, Eq)]
 pub struct Tally {
     /// All frames.
@@ -44,24 +44,24 @@ impl Tally {
     }
 
     /// With one frame more.
-    pub(crate) fn with(self, kind: FrameKind) -> Tally
-        ensures { (kinds : List Kind) → self ≡ tally_of kinds → result ≡ tally_of (kinds ++ kind ∷ []) }
+    pub(crate) fn with(self, verdict: FrameVerdict) -> Tally
+        ensures { (verdicts : List Verdict) → self ≡ tally_of verdicts → result ≡ tally_of (verdicts ++ verdict ∷ []) }
     {
         let frames = self.frames.saturating_add(1);
         let datagrams = self.datagrams.saturating_add(1);
-        match kind {
-            FrameKind::Shown => Tally {
+        match verdict {
+            FrameVerdict::Shown => Tally {
                 frames,
                 datagrams,
                 ..self
             },
-            FrameKind::Refused => Tally {
+            FrameVerdict::Refused => Tally {
                 frames,
                 datagrams,
                 refused: self.refused.saturating_add(1),
                 ..self
             },
-            FrameKind::Other => Tally {
+            FrameVerdict::Other => Tally {
                 frames,
                 others: self.others.saturating_add(1),
                 ..self
@@ -71,12 +71,12 @@ impl Tally {
 }
 
 /// What a frame is counted as whose datagram was shown with this status.
-pub(crate) fn kind_of(status: Status) -> FrameKind
-    ensures { result ≡ kind_of status }
+pub(crate) fn verdict_of(status: Status) -> FrameVerdict
+    ensures { result ≡ verdict_of status }
 {
     match status {
-        Status::Done => FrameKind::Shown,
-        Status::Failed => FrameKind::Refused,
+        Status::Done => FrameVerdict::Shown,
+        Status::Failed => FrameVerdict::Refused,
     }
 }
 

@@ -1,6 +1,6 @@
 //! The ends of streams beside a plain list of their identifiers and remotes, over the same calls.
 use crate::chance::following;
-use at_adsp_ends::{Ends, MAX_ENDS, Remote, Rooms, Step};
+use at_adsp_ends::{EndChange, Ends, MAX_ENDS, Remote, Rooms};
 use at_adsp_frame::{Body, OpenKind, Segment};
 use at_ddp::{Address, Datagrams, Outbox};
 use std::process::Abort;
@@ -70,11 +70,11 @@ fn push(rt: &impl Abort, plain: &mut PlainEnds, id: u16, remote: Option<Remote>)
 }
 
 // What came of a segment of this remote, or of a closing.
-fn note(rt: &impl Abort, plain: &mut PlainEnds, step: Step, remote: Remote) {
+fn note(rt: &impl Abort, plain: &mut PlainEnds, step: EndChange, remote: Remote) {
     match step {
-        Step::Made(id) => push(rt, plain, id, Some(remote)),
-        Step::Opened(id) => open(plain, id, remote),
-        Step::Denied(id) | Step::Freed(id) => plain.ends.retain(|end| end.id != id),
+        EndChange::Made(id) => push(rt, plain, id, Some(remote)),
+        EndChange::Opened(id) => open(plain, id, remote),
+        EndChange::Denied(id) | EndChange::Freed(id) => plain.ends.retain(|end| end.id != id),
         _ => {}
     }
 }

@@ -1,5 +1,5 @@
 //! Ends whose sequence numbers begin again at 0. What an end sent and expects is seen by what its timers send.
-use at_adsp_end::{End, Item, Remote, Rooms, Step, Tick};
+use at_adsp_end::{End, EndChange, Item, Remote, Rooms, Tick};
 use at_adsp_frame::{Body, Segment};
 use at_ddp::{Address, Datagrams, HEADER_LEN, Outbox};
 use std::process::Abort;
@@ -35,8 +35,8 @@ const ABCDE: [Item; 5] = [
 ];
 
 // A segment was heard, and brought so many items.
-fn heard(items: u16) -> Step {
-    Step::Heard { id: 1, items }
+fn heard(items: u16) -> EndChange {
+    EndChange::Heard { id: 1, items }
 }
 
 fn outbox<R: AllocGlobal>(rt: &R) -> Outbox {
@@ -69,7 +69,7 @@ fn hear<R: AllocGlobal + Abort>(
     window: u16,
     body: Body<'_>,
     want: &[&[u8]],
-) -> Step {
+) -> EndChange {
     let segment = Segment {
         source: 2,
         first,
@@ -93,7 +93,7 @@ fn write<R: AllocGlobal + Abort>(rt: &R, end: &mut End, items: &[Item], want: &[
 }
 
 // A timer of the end fires, and the end sends these.
-fn tick<R: AllocGlobal + Abort>(rt: &R, end: &mut End, tick: Tick, want: &[&[u8]]) -> Step {
+fn tick<R: AllocGlobal + Abort>(rt: &R, end: &mut End, tick: Tick, want: &[&[u8]]) -> EndChange {
     assert!(rt; !end.is_closed());
     let mut out = outbox(rt);
     let step = end.tick(tick, &mut out).expect(rt, "out of memory");
@@ -103,8 +103,8 @@ fn tick<R: AllocGlobal + Abort>(rt: &R, end: &mut End, tick: Tick, want: &[&[u8]
 
 // The end waits for no answer, and this is its probe, which has the number of its next item.
 fn waits_for_nothing<R: AllocGlobal + Abort>(rt: &R, end: &mut End, probe: &[u8]) {
-    assert!(rt; tick(rt, end, Tick::Retransmit, &[]) == Step::Idle);
-    assert!(rt; tick(rt, end, Tick::Probe, &[probe]) == Step::Again);
+    assert!(rt; tick(rt, end, Tick::Retransmit, &[]) == EndChange::Idle);
+    assert!(rt; tick(rt, end, Tick::Probe, &[probe]) == EndChange::Again);
 }
 
 #[test]
@@ -126,7 +126,9 @@ fn a_reset_across_the_wrap_leads_to_one(rt: HostRuntime) {
     sends(&rt, out, &[b"\0\x01\0\0\0\x01\xFF\xFF\xFF\xFE\0\x05\x86"]);
     let mut other = end_with(&rt, 5);
     let answer: &[u8] = b"\0\x01\xFF\xFF\xFF\xFE\0\0\0\x01\0\x05\x87";
-    assert!(&rt; hear(&rt, &mut other, 1, FIRST, 5, Body::Reset, &[answer]) == Step::Dropped(1));
+    assert!(&rt;
+        hear(&rt, &mut other, 1, FIRST, 5, Body::Reset, &[answer]) == EndChange::Dropped(1)
+    );
     assert!(&rt; hear(&rt, &mut end, FIRST, 1, 5, Body::ResetAck, &[]) == heard(0));
     waits_for_nothing(&rt, &mut end, b"\0\x01\0\0\0\x01\xFF\xFF\xFF\xFE\0\x05\xC0");
 }
@@ -155,5 +157,5 @@ fn a_window_across_the_wrap_does_not_move_back(rt: HostRuntime) {
     let e: &[u8] = b"\0\x01\0\0\0\x02\xFF\xFF\xFF\xFE\0\x05\x40e";
     assert!(&rt; hear(&rt, &mut end, FIRST, 0, 3, Body::Probe, &[e]) == heard(0));
     let cde: &[u8] = b"\0\x01\0\0\0\0\xFF\xFF\xFF\xFE\0\x05\x40cde";
-    assert!(&rt; tick(&rt, &mut end, Tick::Retransmit, &[cde]) == Step::Again);
+    assert!(&rt; tick(&rt, &mut end, Tick::Retransmit, &[cde]) == EndChange::Again);
 }

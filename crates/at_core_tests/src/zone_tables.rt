@@ -1,6 +1,6 @@
 //! The two zone tables of a router, and the requests that name one of them.
 use at_ddp::{Listed, Pascal};
-use at_zip::{Tables, Which, ZipFault, Zones, read_request, request_user};
+use at_zip::{TableChoice, Tables, ZipFault, Zones, read_request, request_user};
 use std::alloc::Global;
 use std::process::Abort;
 
@@ -22,7 +22,7 @@ fn has(zones: &Zones, name: &[u8]) -> bool {
 
 // Whether the two tables have this one name each.
 fn have(tables: &Tables, all: &[u8], local: &[u8]) -> bool {
-    has(tables.get(Which::All), all) && has(tables.get(Which::Local), local)
+    has(tables.get(TableChoice::All), all) && has(tables.get(TableChoice::Local), local)
 }
 
 #[test]
@@ -30,19 +30,19 @@ fn a_table_is_set_in_its_own_place(rt: HostRuntime) {
     let all = table(&rt, rt.alloc(), b"Lab");
     let mut tables = Tables::new(all, table(&rt, rt.alloc(), b"Hall"));
     assert!(rt; have(&tables, b"Lab", b"Hall"));
-    tables.set(Which::Local, table(&rt, rt.alloc(), b"Attic"));
+    tables.set(TableChoice::Local, table(&rt, rt.alloc(), b"Attic"));
     tables.limits();
     assert!(rt; have(&tables, b"Lab", b"Attic"));
-    tables.set(Which::All, table(&rt, rt.alloc(), b"Office"));
+    tables.set(TableChoice::All, table(&rt, rt.alloc(), b"Office"));
     assert!(rt; have(&tables, b"Office", b"Attic"));
 }
 
 #[test]
 fn a_request_names_its_table_by_its_code(rt: HostRuntime) {
-    assert!(rt; request_user(Which::All, 258) == [8, 0, 1, 2]);
-    assert!(rt; request_user(Which::Local, 258) == [9, 0, 1, 2]);
-    assert!(rt; matches!(read_request([8, 0, 1, 2]), Ok((Which::All, 258))));
-    assert!(rt; matches!(read_request([9, 7, 1, 2]), Ok((Which::Local, 258))));
+    assert!(rt; request_user(TableChoice::All, 258) == [8, 0, 1, 2]);
+    assert!(rt; request_user(TableChoice::Local, 258) == [9, 0, 1, 2]);
+    assert!(rt; matches!(read_request([8, 0, 1, 2]), Ok((TableChoice::All, 258))));
+    assert!(rt; matches!(read_request([9, 7, 1, 2]), Ok((TableChoice::Local, 258))));
 }
 
 #[test]

@@ -1,6 +1,6 @@
 //! Finished datagrams in the order of sending, each with the node that it goes to.
-ghost use Rattle.std.specs.Prelude.{◌≡◌, ℕ, ◌+◌, ◌<◌, ◌≤◌, ◌∷◌, [], ◌++◌, ◌==◌, length, slice_get, slice_index_or};
-ghost use Rattle.std.specs.Prelude.{◌^◌, slice_range, map, All, OnOk, OnErr, IsOk, Some, vec_capacity, vec_len};
+ghost use Rattle.std.specs.Prelude.{◌≡◌, ℕ, ◌+◌, ◌<◌, ◌≤◌, ◌∷◌, [], ◌++◌, ◌==◌, length, slice_get};
+ghost use Rattle.std.specs.Prelude.{◌^◌, map, All, OnOk, OnErr, IsOk, Some, vec_capacity, vec_len};
 ghost use Rattle.at_ddp.specs.Datagrams.{Posted, HasRoom};
 ghost use Rattle.at_ddp.specs.Marks.{behind, start_at};
 ghost use Rattle.at_ddp.specs.declared.datagrams.Mark.{Mark};

@@ -3,8 +3,8 @@ use Rattle.std.specs.Prelude.{◌≡◌, ℕ, ◌==◌, if◌then◌else◌, fal
 use Rattle.std.specs.Fmt.{decimal}
 use Rattle.std.specs.List.{list_any}
 use Rattle.at_setup.specs.Refusals.{number_of}
-use Rattle.at_setup.specs.declared.refusal.Fault.{Fault as WorldFault}
-use Rattle.at_setup.specs.declared.refusal.Fault.TheVariants as world
+use Rattle.at_setup.specs.declared.refusal.EventFault.{EventFault}
+use Rattle.at_setup.specs.declared.refusal.EventFault.TheVariants as world
 use Rattle.at_faults.specs.declared.fault.Fault.{Fault}
 use Rattle.at_faults.specs.declared.fault.Fault.TheVariants as text
 use Rattle.at_diagnostics.specs.declared.stop.Stop.{Stop}
@@ -46,7 +46,7 @@ event_named file at line =
     if line == 0 then file_named file else place_named file at line ++ codes " was not played: "
 
 -- the number of the refusal for which an event was not played; want of memory has none
-abbrev pub refusal_of : WorldFault → Option ℕ
+abbrev pub refusal_of : EventFault → Option ℕ
 refusal_of (world.Refused r) = Some (number_of r)
 refusal_of world.NoMemory = None
 
@@ -57,13 +57,13 @@ text_told file (text.Unreadable why) reason = file_told file reason
 text_told file text.NoMemory reason = file_told file reason
 
 -- why a play stopped
-abbrev pub stopped_told : List ℕ → WorldFault → ℕ → ℕ → List ℕ → List ℕ
+abbrev pub stopped_told : List ℕ → EventFault → ℕ → ℕ → List ℕ → List ℕ
 stopped_told file fault at line reason = event_named file at line ++ end_told (refusal_of fault) reason
 
 -- why a play ended
 abbrev pub stop_told : List ℕ → Stop → List ℕ → List ℕ
 stop_told file (stop.Text fault) reason = text_told file fault reason
-stop_told file (stop.Event fault at line which) reason = stopped_told file fault at line reason
+stop_told file (stop.Event fault at line datagram) reason = stopped_told file fault at line reason
 
 -- what the line of an event begins with that a node refused
 abbrev pub refusal_named : List ℕ → ℕ → ℕ → List ℕ

@@ -2,15 +2,12 @@
 use Rattle.std.specs.Prelude.{◌≡◌, ℕ, List, ◌++◌, None, codes}
 use Rattle.std.specs.Fmt.{decimal}
 use Rattle.at_setup.specs.Refusals.{number_of}
-use Rattle.at_setup.specs.declared.refusal.Fault.TheVariants as world
+use Rattle.at_setup.specs.declared.refusal.EventFault.TheVariants as world
 use Rattle.at_faults.specs.declared.fault.Fault.{Fault}
 use Rattle.at_faults.specs.declared.fault.Fault.TheVariants as text
+use Rattle.at_print.specs.Refusals.{no_memory_line}
 use Rattle.at_diagnostics.specs.declared.stop.Stop.{Stop}
 use Rattle.at_diagnostics.specs.declared.stop.Stop.TheVariants as stop
-
--- there was no memory for the first event, or for the bytes of a word
-abbrev pub no_memory_line : List ℕ
-no_memory_line = codes "stopped nomemory at 0\n"
 
 -- there is no schedule
 abbrev pub text_fault_line : Fault → List ℕ
@@ -21,9 +18,9 @@ text_fault_line text.NoMemory = no_memory_line
 -- why a play ended before its last event
 abbrev pub stop_line : Stop → List ℕ
 stop_line (stop.Text f) = text_fault_line f
-stop_line (stop.Event (world.Refused r) at line which) =
+stop_line (stop.Event (world.Refused r) at line datagram) =
     codes "stopped " ++ (decimal (number_of r) ++ (codes " at " ++ (decimal at ++ codes "\n")))
-stop_line (stop.Event world.NoMemory at line which) = codes "stopped nomemory at " ++ (decimal at ++ codes "\n")
+stop_line (stop.Event world.NoMemory at line datagram) = codes "stopped nomemory at " ++ (decimal at ++ codes "\n")
 
 -- the stop that a fault of the text is, before the first event
 abbrev pub stop_of : Fault → Stop
@@ -40,5 +37,5 @@ IsOfReading text.NoMemory = ⊥
 -- the line of the event of this place could not be read
 abbrev pub IsUnread : ℕ → Stop → Type 0
 IsUnread at (stop.Text f) = IsOfReading f
-IsUnread at (stop.Event world.NoMemory n line which) = n ≡ at
-IsUnread at (stop.Event (world.Refused r) n line which) = ⊥
+IsUnread at (stop.Event world.NoMemory n line datagram) = n ≡ at
+IsUnread at (stop.Event (world.Refused r) n line datagram) = ⊥

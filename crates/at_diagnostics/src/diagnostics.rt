@@ -55,8 +55,8 @@ impl<'a, W: Paper> Diagnostics<'a, W> {
                 fault,
                 at,
                 line,
-                which,
-            } => self.tell_event(fault, at, line, which),
+                datagram,
+            } => self.tell_event(fault, at, line, datagram),
         }
     }
 
@@ -102,11 +102,17 @@ impl<'a, W: Paper> Diagnostics<'a, W> {
     }
 
     // Tells why an event was not played, or that there was no memory for any line.
-    fn tell_event(&mut self, fault: at_setup::Fault, at: u32, line: usize, which: Option<u64>)
+    fn tell_event(
+        &mut self,
+        fault: at_setup::EventFault,
+        at: u32,
+        line: usize,
+        datagram: Option<u64>,
+    )
         ensures { TellsReason W.page (stopped_told (file_of self.old) fault at line) self.old self.new }
     {
         self.name_event(at, line);
-        self.tell_end(reason_of(fault, which).words(), refusal_of(fault));
+        self.tell_end(reason_of(fault, datagram).words(), refusal_of(fault));
     }
 
     fn name_event(&mut self, at: u32, line: usize)

@@ -53,15 +53,15 @@ fn unopened_for(reason: &str) -> Sentence {
 }
 
 /// Why an event was not played. A delivery may be untimely for what it carries, and for what it would draw.
-pub(crate) fn reason_of(fault: at_setup::Fault, which: Option<u64>) -> Sentence {
+pub(crate) fn reason_of(fault: at_setup::EventFault, datagram: Option<u64>) -> Sentence {
     let mut text = ArrayString::new();
-    let _whole = match (fault, which) {
-        (at_setup::Fault::Refused(Refusal::Untimely), Some(which)) => write!(
+    let _whole = match (fault, datagram) {
+        (at_setup::EventFault::Refused(Refusal::Untimely), Some(datagram)) => write!(
             text,
-            "a number in datagram {which} has been drawn again since, \
+            "a number in datagram {datagram} has been drawn again since, \
                 or a node still holds a record or an end under the number that it would draw"
         ),
-        (at_setup::Fault::Refused(Refusal::Untimely), None) => write!(
+        (at_setup::EventFault::Refused(Refusal::Untimely), None) => write!(
             text,
             "a node still holds a record or an end under the number that would be drawn"
         ),

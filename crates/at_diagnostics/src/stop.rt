@@ -6,7 +6,7 @@ ghost use Rattle.at_print.specs.Printers.{Prints};
 ghost use Rattle.at_faults.specs.Reads.{IsOfRead};
 ghost use Rattle.at_faults.specs.declared.fault.Fault.{Fault as Why};
 ghost use Rattle.at_diagnostics.specs.declared.stop.Stop.TheVariants as stop;
-ghost use Rattle.at_setup.specs.declared.refusal.Fault.TheVariants as world;
+ghost use Rattle.at_setup.specs.declared.refusal.EventFault.TheVariants as world;
 
 use at_faults::Fault;
 use at_print::{Paper, Part, Printer};
@@ -20,10 +20,10 @@ pub enum Stop {
     /// The event of this place, counted from 0, was not played. It is in the line of this number, counted from 1;
     /// the number is 0 before any line was read. `which` is the datagram that was to be delivered.
     Event {
-        fault: at_setup::Fault,
+        fault: at_setup::EventFault,
         at: u32,
         line: usize,
-        which: Option<u64>,
+        datagram: Option<u64>,
     },
 }
 
@@ -34,10 +34,10 @@ impl Stop {
         ensures stop { result ≡ stop.Event world.NoMemory at line None }
     {
         Stop::Event {
-            fault: at_setup::Fault::NoMemory,
+            fault: at_setup::EventFault::NoMemory,
             at,
             line,
-            which: None,
+            datagram: None,
         }
     }
 }
@@ -68,7 +68,7 @@ pub fn write_stop<W: Paper>(printer: &mut Printer<W>, stop: Stop)
     match stop {
         Stop::Text(fault) => write_fault(printer, fault),
         Stop::Event { fault, at, .. } => match fault {
-            at_setup::Fault::Refused(refusal) => {
+            at_setup::EventFault::Refused(refusal) => {
                 printer.write_each(&[
                     Part::Text(b"stopped "),
                     Part::Number(refusal.number() as u64),
@@ -77,7 +77,7 @@ pub fn write_stop<W: Paper>(printer: &mut Printer<W>, stop: Stop)
                     Part::Text(b"\n"),
                 ]);
             }
-            at_setup::Fault::NoMemory => printer.write_each(&[
+            at_setup::EventFault::NoMemory => printer.write_each(&[
                 Part::Text(b"stopped nomemory at "),
                 Part::Number(at as u64),
                 Part::Text(b"\n"),
@@ -102,11 +102,11 @@ pub fn write_fault<W: Paper>(printer: &mut Printer<W>, fault: Fault)
 }
 
 /// The number of the refusal for which an event was not played.
-pub(crate) fn refusal_of(fault: at_setup::Fault) -> Option<u8>
+pub(crate) fn refusal_of(fault: at_setup::EventFault) -> Option<u8>
     ensures { result ≡ refusal_of fault }
 {
     match fault {
-        at_setup::Fault::Refused(refusal) => Some(refusal.number()),
-        at_setup::Fault::NoMemory => None,
+        at_setup::EventFault::Refused(refusal) => Some(refusal.number()),
+        at_setup::EventFault::NoMemory => None,
     }
 }

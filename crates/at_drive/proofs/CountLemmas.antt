@@ -8,7 +8,7 @@ use Rattle.at_cable.specs.declared.fault.CableFault.{CableFault}
 use Rattle.at_ddp.specs.Datagrams.{Posted}
 use Rattle.at_event.specs.declared.Report.{Report}
 use Rattle.at_node.specs.Nodes.{NodeState}
-use Rattle.at_steps.specs.Safety.{Place}
+use Rattle.at_steps.specs.Safety.{TransactionTable}
 use Rattle.at_drive.specs.Arrivals.{Came}
 use Rattle.at_drive.specs.Drives.{Driving, Drives, Plays, Polled, Runs, most_bytes}
 use Rattle.at_drive.specs.Sendings.{Sends, fault_of}
@@ -63,7 +63,8 @@ module _ {A C : Type 0} (S : C → ℕ → ℕ → List ℕ → Result (Unit {0}
     → S c from to bytes answer c' → IsCounted (failed c) answer (failed c'))
     (receive_counts : (c : C) (k room : ℕ) (answer : Result (Option (List ℕ)) CableFault) (c' : C)
     → R c k room answer c' → IsCounted (failed c) answer (failed c')) where
-  plays_count : (at k : ℕ) (Wants : Place → Type 0) (T : NodeState → List Posted → Report A → NodeState → List Posted → Type 0)
+  plays_count : (at k : ℕ) (Wants : TransactionTable → Type 0) (T : NodeState → List Posted → Report A → NodeState
+      → List Posted → Type 0)
       (news : List Came) (d : Driving A) (c : C) (d' : Driving A) (c' : C) → failed c ≤ last_count
       → Plays S at k Wants T news d c d' c' → Counts failed d c d' c'
   plays_count at k Wants T news d c d' c' within h = record {

@@ -9,9 +9,7 @@ use Rattle.std.proofs.lemmas.List.Folds.{list_all_at}
 use Rattle.std.proofs.lemmas.List.{take_more, length-take}
 use Rattle.std.proofs.lemmas.Option.{slice_get-get_or}
 use Rattle.at_cable.specs.declared.fault.CableFault.{CableFault}
-use Rattle.at_setup.specs.declared.setup.Setup.{Setup}
-use Rattle.at_drive.specs.Drives.{Driving, Drives, IsDrive, IsLeft, Runs, logged, opening_drive}
-use Rattle.at_drive.specs.declared.log.DriveFault.{DriveFault}
+use Rattle.at_drive.specs.Drives.{Driving, Drives, IsLeft, Runs}
 use Rattle.at_drive.specs.declared.step.Step.{Step}
 use Rattle.at_drive.specs.declared.step.Step.TheVariants.{Call, Timer, Poll}
 
@@ -54,18 +52,6 @@ module _ {A C : Type 0} (S : C → ℕ → ℕ → List ℕ → Result (Unit {0}
       → IsLeft R (Some s) c c' → IsLeft R (slice_get steps at) c c'
   left_at steps at s c c' within is left =
       subst (λ o. IsLeft R o c c') (sym (slice_get-get_or steps at s within ∙ ap (λ x. Some x) (sym is))) left
-
-  -- a drive that stopped at a step
-  pub stopped_at : (setup : Setup A) (steps : List (Step A)) (c : C) (d : Driving A) (mid c' : C) (f : DriveFault A)
-      (at : ℕ) → f.at ≡ at → logged f.log ≡ d.log → Runs S R 0 (take at steps) (opening_drive setup) c d mid →
-      IsLeft R (slice_get steps at) mid c' → IsDrive S R setup steps c (Err f) c'
-  stopped_at setup steps c d mid c' f at is log run left = (
-    d,
-    mid,
-    subst (λ n. Runs S R 0 (take n steps) (opening_drive setup) c d mid) (sym is) run,
-    log,
-    subst (λ n. IsLeft R (slice_get steps n) mid c') (sym is) left,
-  )
 
 -- a test that all entries of a list pass is passed by the one at an index
 pub all_pass : {X : Type 0} (p : X → Bool) (xs : List X) (i : ℕ) (x : X) → i < length xs → x ≡ get_or xs i x

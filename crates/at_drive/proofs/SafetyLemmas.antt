@@ -1,11 +1,11 @@
 -- Each input that a node takes is safe, if each event of a node within its limits is.
 use Rattle.std.proofs.Common.{◌≡◌, ◌∙◌, ◌≤◌, ℕ, List, [], ◌∷◌, Bool, false, true, cond, find, length, map, ap, sym}
 use Rattle.std.proofs.Common.{subst, refl, Some, arith}
-use Rattle.std.proofs.lemmas.Bool.{true≢false, false≢true}
+use Rattle.std.proofs.lemmas.Bool.{true≢false}
 use Rattle.std.proofs.lemmas.List.{length-map}
 use Rattle.std.specs.Prelude.{MatchBool}
 use Rattle.at_ddp.specs.Datagrams.{Posted}
-use Rattle.at_event.specs.Outcomes.{Comes, Exactly, IsStep, Outcome, posted, wants_memory}
+use Rattle.at_event.specs.Outcomes.{Exactly, Outcome, posted, wants_memory}
 use Rattle.at_event.specs.Kinds.{takes_memory}
 use Rattle.at_event.specs.declared.Call.{Call}
 use Rattle.at_event.specs.declared.Timer.{Timer}
@@ -17,11 +17,11 @@ use Rattle.at_node.specs.Limits.{IsWithin}
 use Rattle.at_node.specs.Nodes.{NodeState, called, timed}
 use Rattle.at_node.specs.declared.numbers.Input.{Input}
 use Rattle.at_node.specs.declared.numbers.Input.TheVariants as input
-use Rattle.at_steps.specs.Safety.{IsPlaceOf, IsPlaceOfCall, IsSafe as IsSafeOutcome, Place, number_told}
+use Rattle.at_steps.specs.Safety.{IsTableOf, IsTableOfCall, IsSafe as IsSafeOutcome, TransactionTable, number_told}
 use Rattle.at_nodes.specs.Nodes.{AreWithin}
 use Rattle.at_nodes.specs.Taking.{Takes}
 use Rattle.at_nodes.specs.Nodes.{is_numbered}
-use Rattle.at_drive.specs.Safety.{IsSafe, place_wanted}
+use Rattle.at_drive.specs.Safety.{IsSafe, table_wanted}
 
 -- the node that is found keeps to its limits, if all do
 pub one_within : (k : ℕ) (n : NodeState) (nodes : List NodeState) → AreWithin nodes
@@ -36,17 +36,18 @@ one_within k n (x ∷ xs) all h = go (λ g. one_within k n xs all.1 g) (is_numbe
 
 -- what the layer below promises of each event of a node
 pub record SafetyLaws (A : Type 0) : Type 0 where
-  pub call : (n : NodeState) (call : Call A) → IsWithin n → IsSafeOutcome IsPlaceOfCall n n (called n call)
-  pub timer : (n : NodeState) (time : Timer) → IsWithin n → IsSafeOutcome {A = A} IsPlaceOfCall n n (timed n time)
+  pub call : (n : NodeState) (call : Call A) → IsWithin n → IsSafeOutcome IsTableOfCall n n (called n call)
+  pub timer : (n : NodeState) (time : Timer) → IsWithin n → IsSafeOutcome {A = A} IsTableOfCall n n (timed n time)
   pub datagram : (n : NodeState) (said : Reply A) (bytes : List ℕ) (o : Outcome A NodeState) → IsWithin n
-      → Hears said n bytes o → IsSafeOutcome (IsPlaceOf bytes) n n o
+      → Hears said n bytes o → IsSafeOutcome (IsTableOf bytes) n n o
 
 -- who tells a number was not out of memory
 told_some : {A : Type 0} (r : Report A) (number : ℕ) → number_told r ≡ Some number → wants_memory r ≡ false
 told_some report.NoMemory number h = absurd (cc)
 told_some r number h = refl
 
-module _ {A : Type 0} (P : Place → Type 0) (n : NodeState) (r : Report A) (n' : NodeState) (out : List Posted)
+module _ {A : Type 0} (P : TransactionTable → Type 0) (n : NodeState) (r : Report A) (n' : NodeState)
+    (out : List Posted)
     (after : IsWithin n') where
   -- nothing happened, since memory was out
   of_nothing : wants_memory r ≡ true → n' ≡ n → out ≡ [] → IsSafe P n r n' out
@@ -90,11 +91,11 @@ module _ {A : Type 0} (P : Place → Type 0) (n : NodeState) (r : Report A) (n' 
   of_coming May safe false e h = of_outcome h.0 e (safe h.0 h.1) h.2
 
 pub taken_safely : {A : Type 0} (laws : SafetyLaws A) (i : Input A) (n : NodeState) (r : Report A) (n' : NodeState)
-    (out : List Posted) → IsWithin n → IsWithin n' → Takes i n [] r n' out → IsSafe (place_wanted i) n r n' out
+    (out : List Posted) → IsWithin n → IsWithin n' → Takes i n [] r n' out → IsSafe (table_wanted i) n r n' out
 taken_safely laws (input.Call call) n r n' out before after h =
-    of_step IsPlaceOfCall n r n' out after (called n call.now) (laws.call n call.now before) (wants_memory r) refl h
+    of_step IsTableOfCall n r n' out after (called n call.now) (laws.call n call.now before) (wants_memory r) refl h
 taken_safely laws (input.Timer timer) n r n' out before after h =
-    of_step IsPlaceOfCall n r n' out after (timed n timer) (laws.timer n timer before) (wants_memory r) refl h
+    of_step IsTableOfCall n r n' out after (timed n timer) (laws.timer n timer before) (wants_memory r) refl h
 taken_safely laws (input.Received bytes) n r n' out before after h =
-    of_coming (IsPlaceOf bytes.now) n r n' out after (Hears h.0 n bytes.now)
+    of_coming (IsTableOf bytes.now) n r n' out after (Hears h.0 n bytes.now)
     (λ o hears. laws.datagram n h.0 bytes.now o before hears) (wants_memory r) refl h.1

@@ -12,7 +12,7 @@ use Rattle.at_setup.specs.declared.setup.Setup.{Setup}
 use Rattle.at_nodes.specs.Openings.{opening_node}
 use Rattle.at_nodes.specs.Taking.{Receives}
 use Rattle.at_nodes.specs.Nodes.{is_numbered}
-use Rattle.at_steps.specs.Safety.{IsPlaceOf, IsPlaceOfCall, Place}
+use Rattle.at_steps.specs.Safety.{IsTableOf, IsTableOfCall, TransactionTable}
 use Rattle.at_drive.specs.Arrivals.{Came}
 use Rattle.at_drive.specs.Safety.{IsSafe}
 use Rattle.at_drive.specs.Sendings.{Sends}
@@ -64,7 +64,7 @@ most_bytes = 600
 -- A node takes an input by a step T of its own, which is safe, and may want a place there for a transaction. Its report
 -- is logged, and what it sends is logged and sent.
 pub record Plays {A C : Type 0} (S : C → ℕ → ℕ → List ℕ → Result (Unit {0}) CableFault → C → Type 0) (at k : ℕ)
-    (Wants : Place → Type 0) (T : NodeState → List Posted → Report A → NodeState → List Posted → Type 0)
+    (Wants : TransactionTable → Type 0) (T : NodeState → List Posted → Report A → NodeState → List Posted → Type 0)
     (news : List Came) (d : Driving A) (c : C) (d' : Driving A) (c' : C) : Type 0 where
   pub node : NodeState
   pub stands : find (is_numbered k) d.nodes ≡ Some node
@@ -86,7 +86,7 @@ pub record Plays {A C : Type 0} (S : C → ℕ → ℕ → List ℕ → Result (
 abbrev pub Polled : {A C : Type 0} → (C → ℕ → ℕ → List ℕ → Result (Unit {0}) CableFault → C → Type 0) → ℕ → ℕ
     → Result (Option (List ℕ)) CableFault → Driving A → C → Driving A → C → Type 0
 Polled S at k (Ok (Some bytes)) d c d' c' =
-    Plays S at k (IsPlaceOf bytes) (Receives bytes) (record { at = at; bytes = bytes } ∷ []) d c d' c'
+    Plays S at k (IsTableOf bytes) (Receives bytes) (record { at = at; bytes = bytes } ∷ []) d c d' c'
 Polled S at k (Ok None) d c d' c' = (d' ≡ d) × (c' ≡ c)
 Polled S at k (Err fault) d c d' c' =
     (d' ≡ record d { log = record d.log { faults = d.log.faults ++ at ∷ [] } }) × (c' ≡ c)
@@ -105,9 +105,9 @@ abbrev pub Drives : {A C : Type 0} → (C → ℕ → ℕ → List ℕ → Resul
     → (C → ℕ → ℕ → Result (Option (List ℕ)) CableFault → C → Type 0) → ℕ → Step A → Driving A → C → Driving A → C
     → Type 0
 Drives S R at (step.Call k call) d c d' c' =
-    Plays S at k IsPlaceOfCall (λ n before r after out. IsStep (called n call) n before r after out) [] d c d' c'
+    Plays S at k IsTableOfCall (λ n before r after out. IsStep (called n call) n before r after out) [] d c d' c'
 Drives S R at (step.Timer k timer) d c d' c' =
-    Plays S at k IsPlaceOfCall (λ n before r after out. IsStep (timed n timer) n before r after out) [] d c d' c'
+    Plays S at k IsTableOfCall (λ n before r after out. IsStep (timed n timer) n before r after out) [] d c d' c'
 Drives S R at (step.Poll k) d c d' c' = Polls S R at k d c d' c'
 
 -- ---- whole drives

@@ -8,14 +8,14 @@ use Rattle.at_node.specs.Limits.{IsWithin}
 use Rattle.at_node.specs.Nodes.{NodeState}
 use Rattle.at_node.specs.declared.numbers.Input.{Input}
 use Rattle.at_node.specs.declared.numbers.Input.TheVariants as input
-use Rattle.at_steps.specs.Safety.{IsPlaceOf, IsPlaceOfCall, IsReason, Place, number_told}
+use Rattle.at_steps.specs.Safety.{IsTableOf, IsTableOfCall, IsReason, TransactionTable, number_told}
 
 -- nothing happened at the node
 abbrev pub HasNoEffect : NodeState → NodeState → List Posted → Type 0
 HasNoEffect n n' out = (n' ≡ n) × (out ≡ [])
 
 -- what an event with this report did to a node, and sent; it may have wanted a place for a transaction there
-pub record IsSafe {A : Type 0} (Wants : Place → Type 0) (n : NodeState) (r : Report A) (n' : NodeState)
+pub record IsSafe {A : Type 0} (Wants : TransactionTable → Type 0) (n : NodeState) (r : Report A) (n' : NodeState)
     (out : List Posted) : Type 0 where
   pub memory : r ≡ report.NoMemory → HasNoEffect n n' out
   pub refused : (number : ℕ) → r ≡ report.Refused number → HasNoEffect n n' out
@@ -23,8 +23,8 @@ pub record IsSafe {A : Type 0} (Wants : Place → Type 0) (n : NodeState) (r : R
   pub few : length out ≤ 131070
   pub within : IsWithin n'
 
--- where an input may want a place
-abbrev pub place_wanted : {A : Type 0} → Input A → Place → Type 0
-place_wanted (input.Call call) = IsPlaceOfCall
-place_wanted (input.Timer timer) = IsPlaceOfCall
-place_wanted (input.Received bytes) = IsPlaceOf bytes.now
+-- the table of transactions in which an input may want a place
+abbrev pub table_wanted : {A : Type 0} → Input A → TransactionTable → Type 0
+table_wanted (input.Call call) = IsTableOfCall
+table_wanted (input.Timer timer) = IsTableOfCall
+table_wanted (input.Received bytes) = IsTableOf bytes.now

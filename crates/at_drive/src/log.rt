@@ -1,5 +1,5 @@
 //! What comes of a drive.
-ghost use Rattle.std.specs.Prelude.{◌≡◌, ◌<◌, ◌++◌, ◌∷◌, [], IfOk, OnOk, OnErr, IsOk, vec_len, vec_capacity};
+ghost use Rattle.std.specs.Prelude.{◌≡◌, ◌<◌, [], IfOk, OnOk};
 ghost use Rattle.at_drive.specs.Drives.{logged, no_log};
 ghost use Rattle.at_drive.specs.Logs.{HasRoom, news_of, with_report};
 

@@ -2,13 +2,13 @@
 ghost use Rattle.std.specs.Prelude.{◌≡◌, ◌⊎◌, ◌∷◌, [], List, ℕ, Option, Result, map, true, Some, IfOk, OnOk, OnErr};
 ghost use Rattle.std.specs.Prelude.{IsErr};
 ghost use Rattle.at_cable.specs.declared.fault.CableFault.{CableFault as Fault};
-ghost use Rattle.at_steps.specs.Safety.{IsPlaceOf};
+ghost use Rattle.at_steps.specs.Safety.{IsTableOf};
 ghost use Rattle.at_nodes.specs.Nodes.{AreWithin};
 ghost use Rattle.at_nodes.specs.Taking.{Receives, Takes};
 ghost use Rattle.at_drive.specs.Drives.{Drives, IsLeft, Plays, Polls, logged, most_bytes, noting, number_of};
 ghost use Rattle.at_drive.specs.Drives.{opening_nodes_of};
 ghost use Rattle.at_drive.specs.Logs.{news_of};
-ghost use Rattle.at_drive.specs.Safety.{place_wanted};
+ghost use Rattle.at_drive.specs.Safety.{table_wanted};
 ghost use Rattle.at_drive.specs.Steps.{node_of, stands_in};
 
 use crate::arrival::Arrival;
@@ -194,7 +194,7 @@ impl<A: Allocator + Copy> Drive<A> {
         log: &mut Log<A>,
     ) -> Result<(), AllocError>
         requires stands { stands_in (map number_of self.old.nodes) node ≡ true }
-        ensures driven { OnOk result (Plays C.sends at node (IsPlaceOf bytes.now) (Receives bytes.now)
+        ensures driven { OnOk result (Plays C.sends at node (IsTableOf bytes.now) (Receives bytes.now)
             (record { at = at; bytes = bytes.now } ∷ []) (noting self.old log.old) cable.old
             (noting self.new log.new) cable.new) }
         ensures stopped { OnErr result (logged log.new ≡ logged log.old) }
@@ -225,7 +225,7 @@ impl<A: Allocator + Copy> Drive<A> {
         log: &mut Log<A>,
     ) -> Result<(), AllocError>
         requires stands { stands_in (map number_of self.old.nodes) number ≡ true }
-        ensures driven { OnOk result (Plays C.sends at number (place_wanted input.now) (Takes input.now) (news_of news)
+        ensures driven { OnOk result (Plays C.sends at number (table_wanted input.now) (Takes input.now) (news_of news)
             (noting self.old log.old) cable.old (noting self.new log.new) cable.new) }
         ensures stopped { OnErr result (logged log.new ≡ logged log.old) }
         ensures left { OnErr result (cable.new ≡ cable.old) }

@@ -15,7 +15,7 @@ use Rattle.at_drive_lines.specs.Drafts.{Adds, Bars, HasBody, HasRead, HasReadAt}
 use Rattle.at_drive_lines.specs.Says.{AreStep, SaysPort, begins_step, have_ports, leave_port}
 use Rattle.at_drive_lines.specs.declared.draft.DriveDraft.{DriveDraft}
 use Rattle.at_drive_lines.specs.declared.draft.Stage.TheVariants.{Body, Net, Port}
-use Rattle.at_drive_lines.proofs.BodyLemmas.{event_setup, head_taken, port_taken, step_taken}
+use Rattle.at_drive_lines.proofs.BodyLemmas.{event_setup, head_taken, step_taken}
 use Rattle.at_drive_lines.proofs.RefusalLemmas.{no_port, no_setup, no_step, not_standing, refused_head}
 
 module _ (A : Type 0) (old : DriveDraft A) (line : List (List ℕ)) where
@@ -28,13 +28,6 @@ module _ (A : Type 0) (old : DriveDraft A) (line : List (List ℕ)) where
       let same : t.net ≡ line = cc in
       never [] draft early (t.head, s, subst (λ l. IsSetup (l ∷ t.head) s) same t.setup)
 
-  pub net_adds : (new : DriveDraft A) → old.stage ≡ Net → new.stage ≡ Port → has_events new.setup ≡ false
-      → Takes old.setup line new.setup → Adds A old line new
-  net_adds new stage after later takes lines read =
-      let (none, draft, early) = subst (λ st. HasReadAt A st lines old) stage read in
-      subst (λ st. HasReadAt A st (lines ++ line ∷ []) new) (sym after)
-      (line, ap (λ l. l ++ line ∷ []) none, takes [] draft, later)
-
   -- ---- the port
 
   pub port_barred : old.stage ≡ Port → ((p : ℕ) → ¬ SaysPort line p) → Bars A old line
@@ -44,14 +37,6 @@ module _ (A : Type 0) (old : DriveDraft A) (line : List (List ℕ)) where
       ap (λ l. l ++ line ∷ more) (sym is) ∙ t.parts in
       let same : t.port ≡ line = cc in
       never port (subst (λ l. SaysPort l port) same t.placed)
-
-  pub port_adds : (new : DriveDraft A) → old.stage ≡ Port → new.stage ≡ Body → new.setup ≡ old.setup
-      → SaysPort line new.port → Adds A old line new
-  port_adds new stage after setup says lines read =
-      let (net, is, draft, early) = subst (λ st. HasReadAt A st lines old) stage read in
-      subst (λ st. HasReadAt A st (lines ++ line ∷ []) new) (sym after)
-      (port_taken A lines net line new is (subst (IsDraft (net ∷ [])) (sym setup) draft) (ap has_events setup ∙ early)
-      says)
 
   -- ---- the lines after it
 

@@ -10,6 +10,7 @@ ghost use Rattle.at_faults.specs.declared.fault.LineFault.TheVariants.{NoMemory}
 
 use at_call_words::{call_of, timer_of};
 use at_drive::Step;
+use at_event::EventRule;
 use at_faults::{LineFault, Rule};
 use at_schedule::is_passed_over;
 use at_setup::{NodeSetup, Setup};
@@ -120,8 +121,10 @@ fn call_step<A: Allocator + Copy>(
     ensures said { IsFoundInMemory result (StepSays (codes "call") (words_of words.entry.rest.now)) }
     ensures here { IfOk result (IsStepHere net) }
 {
-    let node = words.next().ok_or(LineFault::Unlawful(Rule::Call))?;
-    let node = node_number(node).ok_or(LineFault::Unlawful(Rule::Call))?;
+    let node = words
+        .next()
+        .ok_or(LineFault::Unlawful(Rule::Event(EventRule::Call)))?;
+    let node = node_number(node).ok_or(LineFault::Unlawful(Rule::Event(EventRule::Call)))?;
     let call = call_of(alloc, net, words)?;
     Ok(Step::Call { node, call })
 }
@@ -131,8 +134,10 @@ fn timer_step<A: Allocator>(net: u16, mut words: Words<'_>) -> Result<Step<A>, L
     ensures said { IsFoundInMemory result (StepSays (codes "timer") (words_of words.entry.rest.now)) }
     ensures here { IfOk result (IsStepHere net) }
 {
-    let node = words.next().ok_or(LineFault::Unlawful(Rule::Timer))?;
-    let node = node_number(node).ok_or(LineFault::Unlawful(Rule::Timer))?;
+    let node = words
+        .next()
+        .ok_or(LineFault::Unlawful(Rule::Event(EventRule::Timer)))?;
+    let node = node_number(node).ok_or(LineFault::Unlawful(Rule::Event(EventRule::Timer)))?;
     match timer_of(net, words) {
         Ok(timer) => Ok(Step::Timer { node, timer }),
         Err(rule) => Err(LineFault::Unlawful(rule)),

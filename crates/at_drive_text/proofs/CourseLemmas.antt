@@ -1,5 +1,6 @@
 -- A drive so far, a line more, and how it ends.
-use Rattle.std.proofs.Common.{◌≡◌, ◌⊎◌, ℕ, ◌+◌, ◌<◌, ◌≤◌, ◌^◌, Bool, true, false, List, [], ◌∷◌, ◌++◌, length, inl, inr, Ok, Err}
+use Rattle.std.proofs.Common.{◌≡◌, ◌⊎◌, ℕ, ◌+◌, ◌<◌, ◌≤◌, ◌^◌, Bool, true, false, List, [], ◌∷◌, ◌++◌, length, inl}
+use Rattle.std.proofs.Common.{inr, Ok, Err}
 use Rattle.std.proofs.Common.{refl, sym, ap, subst, ◌∙◌, arith, IfSome, None, Option, Some}
 use Rattle.std.proofs.lemmas.List.{length-append}
 use Rattle.std.proofs.lemmas.List.Elements.{All-nil, All-push}
@@ -25,7 +26,8 @@ use Rattle.at_print.specs.declared.printer.Printer.{Printer}
 use Rattle.at_print.proofs.PrintLemmas.{Prints-nothing, Prints-trans}
 use Rattle.at_drive_text.specs.Courses.{EndsLine, IsGoing, TellsLine}
 use Rattle.at_diagnostics.specs.declared.diagnostics.Diagnostics.{Diagnostics}
-use Rattle.at_drive_text.specs.Driven.{Goes, IsUnread, Place, Tells, WasRead, first_place, news_text, next_place}
+use Rattle.at_drive_text.specs.Driven.{Goes, IsUnread, Progress, Tells, WasRead, first_progress, news_text}
+use Rattle.at_drive_text.specs.Driven.{next_progress}
 use Rattle.at_drive_text.specs.Driven.{number_of, sent_count}
 use Rattle.at_drive_text.specs.Told.{TellsStep}
 use Rattle.at_drive_text.specs.declared.course.Course.{Course}
@@ -129,34 +131,34 @@ EachFits setup =
 -- sent, and whether a call of the cable failed.
 pub record Sofar {A C W E : Type 0} (S : C → ℕ → ℕ → List ℕ → Result (Unit {0}) CableFault → C → Type 0)
     (R : C → ℕ → ℕ → Result (Option (List ℕ)) CableFault → C → Type 0) (page : W → Page) (heard : E → Page)
-    (setup : Setup A) (first : Option (List (List ℕ))) (start : Place C E) (old : Printer W)
+    (setup : Setup A) (first : Option (List (List ℕ))) (start : Progress C E) (old : Printer W)
     (now : Option (List (List ℕ))) (o : Course A) (d : Nodes) (c' : C) (p : Printer W) (x : Diagnostics E)
     : Type 0 where
   pub steps : List (Step A)
   pub text : List ℕ
-  pub place : Place C E
-  pub tells : Tells S R heard 0 steps start place text
-  pub nodes : place.nodes ≡ d
-  pub cable : place.cable ≡ c'
-  pub told : place.told ≡ x
+  pub progress : Progress C E
+  pub tells : Tells S R heard 0 steps start progress text
+  pub nodes : progress.nodes ≡ d
+  pub cable : progress.cable ≡ c'
+  pub told : progress.told ≡ x
   pub read : List (List ℕ)
   pub come : HaveCome first read now
   pub said : SaySteps read steps
   pub stand : has_all setup steps ≡ true
   pub here : All (IsStepHere setup.net) steps
   pub printed : Prints page old p text
-  pub going : IsGoing setup (length steps) place.sent place.has_failed o
+  pub going : IsGoing setup (length steps) progress.sent progress.has_failed o
 
 module _ {A C W E : Type 0} (S : C → ℕ → ℕ → List ℕ → Result (Unit {0}) CableFault → C → Type 0)
     (R : C → ℕ → ℕ → Result (Option (List ℕ)) CableFault → C → Type 0) (page : W → Page) (heard : E → Page)
     (setup : Setup A) (first : Option (List (List ℕ))) where
   pub nothing_driven : (d : Nodes) (c : C) (x : Diagnostics E) (old : Printer W) (o : Course A)
       → IsGoing setup 0 0 false o
-      → Sofar S R page heard setup first (first_place d c x) old first o d c old x
+      → Sofar S R page heard setup first (first_progress d c x) old first o d c old x
   nothing_driven d c x old o going = record {
     steps = [];
     text = [];
-    place = first_place d c x;
+    progress = first_progress d c x;
     tells = (refl, refl);
     nodes = refl;
     cable = refl;
@@ -172,11 +174,11 @@ module _ {A C W E : Type 0} (S : C → ℕ → ℕ → List ℕ → Result (Unit
 
   -- there was no memory for the opening
   pub not_opened : (may_fail : Bool) (d : Nodes) (c : C) (x : Diagnostics E) (old : Printer W)
-      → Goes S R page heard setup first may_fail (first_place d c x) old c old x (Err (ending.NoMemory 0))
+      → Goes S R page heard setup first may_fail (first_progress d c x) old c old x (Err (ending.NoMemory 0))
   not_opened may_fail d c x old = record {
     steps = [];
     text = [];
-    place = first_place d c x;
+    progress = first_progress d c x;
     tells = (
       (refl, refl),
       record {
@@ -194,7 +196,7 @@ module _ {A C W E : Type 0} (S : C → ℕ → ℕ → List ℕ → Result (Unit
     printed = Prints-nothing page old;
   }
 
-  module _ (start : Place C E) (old : Printer W) where
+  module _ (start : Progress C E) (old : Printer W) where
     module _ (now after : Option (List (List ℕ))) (line : List ℕ) (o : Course A) (d : Nodes) (b : C) (p : Printer W)
         (x : Diagnostics E) (o' : Course A) (d' : Nodes) (b' : C) (p' : Printer W) (x' : Diagnostics E)
         (so : Sofar S R page heard setup first start old now o d b p x) (next : HasNext now line after) where
@@ -203,7 +205,7 @@ module _ {A C W E : Type 0} (S : C → ℕ → ℕ → List ℕ → Result (Unit
       step_more is (s, says, here, stands, t) =
           let (same, at, number, failed) = so.going in
           let came = t.came in
-          let q = so.place in
+          let q = so.progress in
           let k = sent_count (slice_get came.sent 0) in
           let text = news_text (length so.steps) q.sent came in
           let news : news_text o.at o.number came ≡ text =
@@ -218,8 +220,8 @@ module _ {A C W E : Type 0} (S : C → ℕ → ℕ → List ℕ → Result (Unit
             record {
               steps = so.steps ++ s ∷ [];
               text = so.text ++ text;
-              place = next_place q d' b' came x';
-              tells = subst (λ i. Tells S R heard 0 (so.steps ++ s ∷ []) start (next_place q d' b' came x')
+              progress = next_progress q d' b' came x';
+              tells = subst (λ i. Tells S R heard 0 (so.steps ++ s ∷ []) start (next_progress q d' b' came x')
                   (so.text ++ news_text i q.sent came)) zero
                   (and_one S R heard 0 so.steps s start q d' came b' x' so.text so.tells
                   (subst (λ (i : ℕ). Drives S R i s (with_log q.nodes no_log) q.cable (with_log d' came) b') spot
@@ -255,7 +257,7 @@ module _ {A C W E : Type 0} (S : C → ℕ → ℕ → List ℕ → Result (Unit
       line_more false is (same, alike, lies, prints, silent) = record {
         steps = so.steps;
         text = so.text;
-        place = so.place;
+        progress = so.progress;
         tells = so.tells;
         nodes = so.nodes ∙ sym alike;
         cable = so.cable ∙ sym lies;
@@ -266,7 +268,7 @@ module _ {A C W E : Type 0} (S : C → ℕ → ℕ → List ℕ → Result (Unit
         stand = so.stand;
         here = so.here;
         printed = subst (λ e. Prints page old e so.text) (sym prints) so.printed;
-        going = subst (IsGoing setup (length so.steps) (so.place).sent (so.place).has_failed) (sym same) so.going;
+        going = subst (IsGoing setup (length so.steps) (so.progress).sent (so.progress).has_failed) (sym same) so.going;
       }
 
       pub sofar_line : TellsLine S R page heard (is_step_line line) line o d b p x o' d' b' p' x'
@@ -292,7 +294,7 @@ module _ {A C W E : Type 0} (S : C → ℕ → ℕ → List ℕ → Result (Unit
       sofar_ended may_fail (ending.NoMemory at) was law (is, spot, printer, silent, (step, says, left)) = record {
         steps = so.steps;
         text = so.text;
-        place = so.place;
+        progress = so.progress;
         tells = (
           so.tells,
           record {
@@ -313,7 +315,7 @@ module _ {A C W E : Type 0} (S : C → ℕ → ℕ → List ℕ → Result (Unit
           let (more, one) = step_more is line_told in record {
             steps = more.steps;
             text = more.text;
-            place = more.place;
+            progress = more.progress;
             tells = (
               more.tells,
               sym more.cable,
@@ -329,7 +331,7 @@ module _ {A C W E : Type 0} (S : C → ℕ → ℕ → List ℕ → Result (Unit
           record {
             steps = so.steps;
             text = so.text;
-            place = so.place;
+            progress = so.progress;
             tells = (
               so.tells,
               cable ∙ sym so.cable,
@@ -351,7 +353,7 @@ module _ {A C W E : Type 0} (S : C → ℕ → ℕ → List ℕ → Result (Unit
       sofar_done last = record {
         steps = so.steps;
         text = so.text;
-        place = so.place;
+        progress = so.progress;
         tells = (so.tells, sym so.cable, all_said first so.read now so.steps so.come last so.said);
         told = sym so.told;
         stand = so.stand;
@@ -364,7 +366,7 @@ module _ {A C W E : Type 0} (S : C → ℕ → ℕ → List ℕ → Result (Unit
       sofar_unread (ending.NoMemory at) (spot, some) may = record {
         steps = so.steps;
         text = so.text;
-        place = so.place;
+        progress = so.progress;
         tells = (
           so.tells,
           record {
@@ -385,7 +387,7 @@ module _ {A C W E : Type 0} (S : C → ℕ → ℕ → List ℕ → Result (Unit
       sofar_unread (ending.Unread fault) reading may = record {
         steps = so.steps;
         text = so.text;
-        place = so.place;
+        progress = so.progress;
         tells = (
           so.tells,
           sym so.cable,

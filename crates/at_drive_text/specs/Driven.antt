@@ -71,7 +71,7 @@ news_text at n l =
 
 -- how far a drive is: its nodes, the cable, how many datagrams were sent, whether a call of the cable failed, and what
 -- a person was told
-pub record Place (C E : Type 0) : Type 0 where
+pub record Progress (C E : Type 0) : Type 0 where
   pub nodes : Nodes
   pub cable : C
   pub sent : ℕ
@@ -79,12 +79,12 @@ pub record Place (C E : Type 0) : Type 0 where
   pub told : Diagnostics E
 
 -- before any step
-abbrev pub first_place : {C E : Type 0} → Nodes → C → Diagnostics E → Place C E
-first_place d c x = record { nodes = d; cable = c; sent = 0; has_failed = false; told = x }
+abbrev pub first_progress : {C E : Type 0} → Nodes → C → Diagnostics E → Progress C E
+first_progress d c x = record { nodes = d; cable = c; sent = 0; has_failed = false; told = x }
 
 -- after a step of which this came
-abbrev pub next_place : {A C E : Type 0} → Place C E → Nodes → C → Logged A → Diagnostics E → Place C E
-next_place p d c l x = record {
+abbrev pub next_progress : {A C E : Type 0} → Progress C E → Nodes → C → Logged A → Diagnostics E → Progress C E
+next_progress p d c l x = record {
   nodes = d;
   cable = c;
   sent = p.sent + sent_count (slice_get l.sent 0);
@@ -94,14 +94,14 @@ next_place p d c l x = record {
 
 -- These steps are driven, of which the first is at this number. Of each this is printed, and told what has to be.
 abbrev pub Tells : {A C E : Type 0} → (C → ℕ → ℕ → List ℕ → Result (Unit {0}) CableFault → C → Type 0)
-    → (C → ℕ → ℕ → Result (Option (List ℕ)) CableFault → C → Type 0) → (E → Page) → ℕ → List (Step A) → Place C E
-    → Place C E → List ℕ → Type 0
+    → (C → ℕ → ℕ → Result (Option (List ℕ)) CableFault → C → Type 0) → (E → Page) → ℕ → List (Step A) → Progress C E
+    → Progress C E → List ℕ → Type 0
 Tells S R heard at [] p p' text = (p' ≡ p) × (text ≡ [])
 Tells {A} {C} {E} S R heard at (s ∷ ss) p p' text =
     (mid : Nodes) × (l : Logged A) × (between : C) × (x : Diagnostics E) × (rest : List ℕ)
     × Drives S R at s (with_log p.nodes no_log) p.cable (with_log mid l) between
     × TellsStep heard at p.has_failed l p.told x
-    × Tells S R heard (at + 1) ss (next_place p mid between l x) p' rest
+    × Tells S R heard (at + 1) ss (next_progress p mid between l x) p' rest
     × (text ≡ news_text at p.sent l ++ rest)
 
 -- The drive found no memory before the step at this place, or for it. That is the first step, or one that a line says,
@@ -120,7 +120,7 @@ pub record LacksMemory {A C : Type 0} (R : C → ℕ → ℕ → Result (Option 
 -- one then. Or there was no memory for a step. Or a line could not be read, or says no step any more.
 abbrev pub TellsDrive : {A C E : Type 0} → (C → ℕ → ℕ → List ℕ → Result (Unit {0}) CableFault → C → Type 0)
     → (C → ℕ → ℕ → Result (Option (List ℕ)) CableFault → C → Type 0) → (E → Page) → Option (List (List ℕ)) → Bool
-    → List (Step A) → Place C E → Place C E → C → Result (Unit {0}) Ending → List ℕ → Type 0
+    → List (Step A) → Progress C E → Progress C E → C → Result (Unit {0}) Ending → List ℕ → Type 0
 TellsDrive S R heard known may_fail steps p p' c' (Ok u) text =
     Tells S R heard 0 steps p p' text × (c' ≡ p'.cable) × IfSome known (λ lines. SaySteps lines steps)
 TellsDrive S R heard known may_fail steps p p' c' (Err (ending.Unwritten at)) text =
@@ -135,13 +135,13 @@ TellsDrive S R heard known may_fail steps p p' c' (Err (ending.Unread fault)) te
 -- From this place on, steps of the setup's nodes and on its network were driven, and this was printed of them.
 pub record Goes {A C W E : Type 0} (S : C → ℕ → ℕ → List ℕ → Result (Unit {0}) CableFault → C → Type 0)
     (R : C → ℕ → ℕ → Result (Option (List ℕ)) CableFault → C → Type 0) (page : W → Page) (heard : E → Page)
-    (setup : Setup A) (known : Option (List (List ℕ))) (may_fail : Bool) (p : Place C E) (old : Printer W) (c' : C)
+    (setup : Setup A) (known : Option (List (List ℕ))) (may_fail : Bool) (p : Progress C E) (old : Printer W) (c' : C)
     (new : Printer W) (after : Diagnostics E) (result : Result (Unit {0}) Ending) : Type 0 where
   pub steps : List (Step A)
   pub text : List ℕ
-  pub place : Place C E
-  pub tells : TellsDrive S R heard known may_fail steps p place c' result text
-  pub told : after ≡ place.told
+  pub progress : Progress C E
+  pub tells : TellsDrive S R heard known may_fail steps p progress c' result text
+  pub told : after ≡ progress.told
   pub stand : has_all setup steps ≡ true
   pub here : All (IsStepHere setup.net) steps
   pub printed : Prints page old new text
@@ -178,11 +178,12 @@ pub record Driven {A C W E : Type 0} (S : C → ℕ → ℕ → List ℕ → Res
   pub result : Result (Unit {0}) Ending
   pub steps : List (Step A)
   pub text : List ℕ
-  pub place : Place C E
-  pub tells : TellsDrive S R heard known may_fail steps (first_place (opening_nodes_of setup) c before) place c' result
+  pub progress : Progress C E
+  pub tells : TellsDrive S R heard known may_fail steps (first_progress
+      (opening_nodes_of setup) c before) progress c' result
       text
   pub late : Diagnostics E
-  pub ended : TellsEnd heard result place.told late
+  pub ended : TellsEnd heard result progress.told late
   pub last : TellsWrites heard new late after
   pub stand : has_all setup steps ≡ true
   pub here : All (IsStepHere setup.net) steps

@@ -1,5 +1,5 @@
 -- What a person is told of a drive.
-use Rattle.std.specs.Prelude.{◌≡◌, ◌&&◌, nat_le, not, ℕ, Bool, true, false, List, Option, Some, None, Result, Ok, Err}
+use Rattle.std.specs.Prelude.{◌≡◌, ◌&&◌, nat_le, not, ℕ, Bool, true, false, Option, Some, None, Result, Ok, Err}
 use Rattle.std.specs.Prelude.{length, slice_get}
 use Rattle.at_diagnostics.specs.Diagnostics.{TellsLine, TellsReason, TellsReport, TellsStop, file_of}
 use Rattle.at_diagnostics.specs.Lines.{cable_told, undriven_told}

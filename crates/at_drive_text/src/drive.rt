@@ -1,5 +1,5 @@
 //! The drive of nodes over a cable: each step is read, driven and printed before the next.
-ghost use Rattle.std.specs.Prelude.{◌≡◌, ◌↔◌, ◌<◌, ◌^◌, false, true, List, ℕ, IfErr, IfSome, IsOk, Ok, map};
+ghost use Rattle.std.specs.Prelude.{◌≡◌, ◌↔◌, ◌<◌, ◌^◌, false, true, IfErr, IsOk, Ok, map};
 ghost use Rattle.at_diagnostics.specs.Diagnostics.{TellsWrites};
 ghost use Rattle.at_diagnostics.specs.declared.diagnostics.Diagnostics.{Diagnostics as Told};
 ghost use Rattle.at_drive.specs.Drives.{number_of as node_number, opening_nodes_of};
@@ -7,7 +7,7 @@ ghost use Rattle.at_drive.specs.Steps.{numbers_of};
 ghost use Rattle.at_drive_lines.specs.Lines.{HasNext, IsLast};
 ghost use Rattle.at_print.specs.Printers.{HasFailed, IsSettled, Prints};
 ghost use Rattle.at_drive_text.specs.Courses.{IsGoing};
-ghost use Rattle.at_drive_text.specs.Driven.{Driven, Goes, IsUnread, IsUnwritten, WasRead, drive_end, first_place};
+ghost use Rattle.at_drive_text.specs.Driven.{Driven, Goes, IsUnread, IsUnwritten, WasRead, drive_end, first_progress};
 ghost use Rattle.at_drive_text.specs.Told.{TellsEnd};
 
 use crate::course::Course;
@@ -54,7 +54,7 @@ fn drive_opened<A: Allocator + Copy, L: Lines, C: Cable, W: Paper, E: Paper>(
 ) -> Result<(), Ending>
     requires { WasRead setup.now (L.left lines.old) L.may_fail }
     ensures goes { Goes C.sends C.receives W.page E.page setup.now (L.left lines.old) L.may_fail
-        (first_place (opening_nodes_of setup.now) cable.old diagnostics.old) printer.old cable.new printer.new
+        (first_progress (opening_nodes_of setup.now) cable.old diagnostics.old) printer.old cable.new printer.new
         diagnostics.new result }
     ensures unwritten { IsUnwritten result → HasFailed printer.new }
 {
@@ -80,7 +80,7 @@ fn drive_each<A: Allocator + Copy, L: Lines, C: Cable, W: Paper, E: Paper>(
     requires begins { IsGoing course.old.setup.now 0 0 false course.old }
     requires read { WasRead course.old.setup.now (L.left lines.old) L.may_fail }
     ensures goes { Goes C.sends C.receives W.page E.page course.old.setup.now (L.left lines.old) L.may_fail
-        (first_place drive.old cable.old diagnostics.old) printer.old cable.new printer.new diagnostics.new result }
+        (first_progress drive.old cable.old diagnostics.old) printer.old cable.new printer.new diagnostics.new result }
     ensures unwritten { IsUnwritten result → HasFailed printer.new }
 {
     each_line_can_be_read::<A>();

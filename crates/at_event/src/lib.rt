@@ -1,9 +1,9 @@
-//! What happens at a node of a cable: its calls, timers and reports, by the protocol that they are of. Where a node is,
-//! and what a service is.
+//! What happens at a node of a cable: its calls, timers and reports, by the protocol that they are of, and how a line
+//! says them. Where a node is, and what a service is.
 #![tactic(auto)]
 
 ghost use Rattle.std.specs.Prelude.{◌≡◌, IfSome, IsSome, Some};
-ghost use Rattle.at_event.specs.Kinds.{IsCall, number_of};
+ghost use Rattle.at_event.specs.Kinds.{IsCall, event_sentence, number_of};
 ghost use Rattle.at_event.specs.declared.Reason.{Reason as Why};
 
 use crate::fault::{datagram_fault, node_fault};
@@ -32,14 +32,14 @@ mod transactions;
 mod zones;
 
 pub use fault::NodeFault;
-pub use names::{NameCall, NameReport, NameTimer};
+pub use names::{NameCall, NameReport, NameRule, NameTimer};
 pub use packet_count::PacketCount;
 pub use seat::Seat;
 pub use service::{Deferring, Reply, Service};
-pub use session::SessionCall;
-pub use streams::{StreamCall, StreamReport, StreamTimer};
-pub use transactions::{TransactionCall, TransactionReport, TransactionTimer};
-pub use zones::{ZoneCall, ZoneReport};
+pub use session::{SessionCall, SessionRule};
+pub use streams::{StreamCall, StreamReport, StreamRule, StreamTimer};
+pub use transactions::{TransactionCall, TransactionReport, TransactionRule, TransactionTimer};
+pub use zones::{ZoneCall, ZoneReport, ZoneRule};
 
 /// A call by the node's user, by the protocol that it is of.
 #[derive(Drop)]
@@ -80,6 +80,48 @@ pub enum Timer {
     Names(NameTimer),
     /// A timer of streams, of ADSP.
     Streams(StreamTimer),
+}
+
+/// A rule on the line of a call or of a timer, by the protocol whose words it is about.
+#[derive(Clone, Copy, Debug, PartialEq, Eq)]
+pub enum EventRule {
+    /// `call N CALL ..`
+    Call,
+    /// `timer N TIMER ..`
+    Timer,
+    /// The words of transactions, of ATP.
+    Transactions(TransactionRule),
+    /// The words of zone tables, of ZIP.
+    Zones(ZoneRule),
+    /// The words of names, of NBP.
+    Names(NameRule),
+    /// The words of streams, of ADSP.
+    Streams(StreamRule),
+    /// The words of what the node keeps for its user, of no protocol.
+    Session(SessionRule),
+}
+
+impl EventRule {
+    /// The reason for a line that breaks the rule, as standard error has it.
+    pub fn sentence(self) -> &'static str
+        ensures { result.now ≡ event_sentence self }
+    {
+        match self {
+            EventRule::Call => {
+                "`call` takes a node and `zones`, `setzones`, `localzones`, `setlocal`, `ask`, `answer`, `pick`, \
+        `find`, `claim`, `finish`, `register`, `unregister`, `open`, `listen`, `connect`, `write`, `read`, `reset` \
+        or `close`, as in \"call 5 zones\""
+            }
+            EventRule::Timer => {
+                "`timer` takes a node and `retry`, `release`, `lookup`, `resend` or `probe`, as in \"timer 5 retry 0\""
+            }
+            EventRule::Transactions(rule) => rule.sentence(),
+            EventRule::Zones(rule) => rule.sentence(),
+            EventRule::Names(rule) => rule.sentence(),
+            EventRule::Streams(rule) => rule.sentence(),
+            EventRule::Session(rule) => rule.sentence(),
+        }
+    }
 }
 
 /// What came of an event: what a protocol reports, or what all of them can.
@@ -139,6 +181,21 @@ impl Reason {
             50..=59 => stream_fault(number).map(Reason::OfStreams),
             60..=69 => node_fault(number).map(Reason::OfNodes),
             _ => None,
+        }
+    }
+
+    /// The number by which this reason is reported: none for out of memory, which breaks no rule.
+    pub fn number(self) -> Option<u8>
+        ensures { result ≡ number_of self }
+    {
+        match self {
+            Reason::OfDatagrams(fault) => fault.number(),
+            Reason::OfTransactions(fault) => fault.number(),
+            Reason::OfNames(fault) => fault.number(),
+            Reason::OfZones(fault) => fault.number(),
+            Reason::OfSegments(fault) => fault.number(),
+            Reason::OfStreams(fault) => fault.number(),
+            Reason::OfNodes(fault) => Some(fault.number()),
         }
     }
 }

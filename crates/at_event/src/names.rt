@@ -1,7 +1,7 @@
-//! The calls, timers and reports of names.
+//! The calls, timers and reports of names, and the rules on their words.
 ghost use Rattle.std.specs.Prelude.{◌≡◌, ◌<◌, IfSome, IsSome, Some};
 ghost use Rattle.at_nbp.specs.Tuples.{IsString};
-ghost use Rattle.at_event.specs.Kinds.Names.{IsNameCall, IsZone};
+ghost use Rattle.at_event.specs.Kinds.Names.{IsNameCall, IsZone, name_sentence};
 ghost use Rattle.at_nbp.specs.Fault.{number_of};
 ghost use Rattle.at_nbp.specs.declared.fault.NbpFault.{NbpFault as Why};
 
@@ -101,6 +101,52 @@ fn ranges_of_zone(zone: &Option<Pascal>)
 pub enum NameTimer {
     /// A lookup is to be asked again.
     Lookup { id: u8 },
+}
+
+/// How the words of a call or a timer of names must be.
+#[derive(Clone, Copy, Debug, PartialEq, Eq)]
+pub enum NameRule {
+    /// `call N find TEXT TEXT [TEXT]`
+    Find,
+    /// `call N claim TEXT TEXT SOCKET`
+    Claim,
+    /// `call N finish ID`
+    Finish,
+    /// `call N register TEXT TEXT SOCKET`
+    Register,
+    /// `call N unregister TEXT TEXT`
+    Unregister,
+    /// `timer N lookup ID`
+    Lookup,
+}
+
+impl NameRule {
+    pub(crate) fn sentence(self) -> &'static str
+        ensures { result.now ≡ name_sentence self }
+    {
+        match self {
+            NameRule::Find => {
+                "`find` takes an object, a type, and a zone if needed, of at most 32 bytes each, \
+        as in \"call 5 find = LaserWriter\""
+            }
+            NameRule::Claim => {
+                "`claim` takes an object and a type of at most 32 bytes each, and a socket, 1 to 254, \
+        as in \"call 5 claim Printer LaserWriter 130\""
+            }
+            NameRule::Finish =>
+                "`finish` takes a lookup's identifier, 0 to 255, as in \"call 5 finish 0\"",
+            NameRule::Register => {
+                "`register` takes an object and a type of at most 32 bytes each, and a socket, 1 to 254, \
+        as in \"call 7 register Printer LaserWriter 130\""
+            }
+            NameRule::Unregister => {
+                "`unregister` takes an object and a type of at most 32 bytes each, \
+        as in \"call 7 unregister Printer LaserWriter\""
+            }
+            NameRule::Lookup =>
+                "`lookup` takes a lookup's identifier, 0 to 255, as in \"timer 5 lookup 0\"",
+        }
+    }
 }
 
 /// What names and lookups report.

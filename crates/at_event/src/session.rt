@@ -1,5 +1,6 @@
-//! The calls of what a node keeps for its user.
-ghost use Rattle.at_event.specs.Kinds.Sessions.{IsSessionCall};
+//! The calls of what a node keeps for its user, and the rules on their words.
+ghost use Rattle.std.specs.Prelude.{◌≡◌};
+ghost use Rattle.at_event.specs.Kinds.Sessions.{IsSessionCall, session_sentence};
 
 use crate::ranges::ranges_of_text;
 use at_ddp::Pascal;
@@ -17,6 +18,24 @@ impl SessionCall {
     {
         match self {
             SessionCall::Pick { zone } => ranges_of_text(zone),
+        }
+    }
+}
+
+/// How the words of a call of the session must be.
+#[derive(Clone, Copy, Debug, PartialEq, Eq)]
+pub enum SessionRule {
+    /// `call N pick TEXT`
+    Pick,
+}
+
+impl SessionRule {
+    pub(crate) fn sentence(self) -> &'static str
+        ensures { result.now ≡ session_sentence self }
+    {
+        match self {
+            SessionRule::Pick =>
+                "`pick` takes a zone of at most 32 bytes, as in \"call 5 pick Office\"",
         }
     }
 }

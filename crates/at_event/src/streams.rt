@@ -1,8 +1,8 @@
-//! The calls, timers and reports of streams.
+//! The calls, timers and reports of streams, and the rules on their words.
 ghost use Rattle.std.specs.Prelude.{◌≡◌, ◌<◌, IfSome, IsSome, Some};
 ghost use Rattle.std.specs.List.{AllByRecursion};
 ghost use Rattle.at_adsp_end.specs.Items.{IsItem};
-ghost use Rattle.at_event.specs.Kinds.Streams.{IsStreamCall};
+ghost use Rattle.at_event.specs.Kinds.Streams.{IsStreamCall, stream_sentence};
 ghost use Rattle.at_adsp_frame.specs.Fault as segments;
 ghost use Rattle.at_adsp_frame.specs.declared.fault.AdspFault.{AdspFault as SegmentWhy};
 ghost use Rattle.at_adsp_end.specs.Fault as ends;
@@ -109,6 +109,58 @@ pub enum StreamTimer {
     Probe {
         id: u16,
     },
+}
+
+/// How the words of a call or a timer of streams must be.
+#[derive(Clone, Copy, Debug, PartialEq, Eq)]
+pub enum StreamRule {
+    /// `call N open I`
+    Open,
+    /// `call N listen on|off`
+    Listen,
+    /// `call N connect NODE SOCKET`
+    Connect,
+    /// `call N write ID ITEM ..`
+    Write,
+    /// `call N read ID COUNT`
+    Read,
+    /// `call N reset ID`
+    Reset,
+    /// `call N close ID`
+    Close,
+    /// `timer N resend ID`
+    Resend,
+    /// `timer N probe ID`
+    Probe,
+}
+
+impl StreamRule {
+    pub(crate) fn sentence(self) -> &'static str
+        ensures { result.now ≡ stream_sentence self }
+    {
+        match self {
+            StreamRule::Open =>
+                "`open` takes the index of a name that was found, from 0, as in \"call 5 open 0\"",
+            StreamRule::Listen => "`listen` takes `on` or `off`, as in \"call 7 listen on\"",
+            StreamRule::Connect =>
+                "`connect` takes a node and a socket, 1 to 254 each, as in \"call 5 connect 7 130\"",
+            StreamRule::Write => {
+                "`write` takes an end's identifier, 0 to 65535, and items, each pairs of hexadecimal digits, `-` for \
+        no bytes, or `end`, as in \"call 5 write 1 6162 end\""
+            }
+            StreamRule::Read => {
+                "`read` takes an end's identifier and a number of items, 0 to 65535 each, as in \"call 7 read 1 10\""
+            }
+            StreamRule::Reset =>
+                "`reset` takes an end's identifier, 0 to 65535, as in \"call 5 reset 1\"",
+            StreamRule::Close =>
+                "`close` takes an end's identifier, 0 to 65535, as in \"call 5 close 1\"",
+            StreamRule::Resend =>
+                "`resend` takes an end's identifier, 0 to 65535, as in \"timer 5 resend 1\"",
+            StreamRule::Probe =>
+                "`probe` takes an end's identifier, 0 to 65535, as in \"timer 5 probe 1\"",
+        }
+    }
 }
 
 /// What the ends of streams report.

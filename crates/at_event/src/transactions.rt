@@ -1,6 +1,6 @@
-//! The calls, timers and reports of transactions.
+//! The calls, timers and reports of transactions, and the rules on their words.
 ghost use Rattle.std.specs.Prelude.{◌≡◌, IfSome, IsSome, Some};
-ghost use Rattle.at_event.specs.Kinds.Transactions.{IsKey, IsTransactionCall};
+ghost use Rattle.at_event.specs.Kinds.Transactions.{IsKey, IsTransactionCall, transaction_sentence};
 ghost use Rattle.at_atp_frame.specs.Fault.{number_of};
 ghost use Rattle.at_atp_frame.specs.declared.fault.AtpFault.{AtpFault as Why};
 
@@ -80,6 +80,42 @@ pub enum TransactionTimer {
         /// Who asked, under which number.
         key: Key,
     },
+}
+
+/// How the words of a call or a timer of transactions must be.
+#[derive(Clone, Copy, Debug, PartialEq, Eq)]
+pub enum TransactionRule {
+    /// `call N ask NODE SOCKET USER DATA WANTED alo|xo RETRIES`
+    Ask,
+    /// `call N answer NODE SOCKET T USER:DATA ..`
+    Answer,
+    /// `timer N retry T`
+    Retry,
+    /// `timer N release OWN NODE SOCKET T`
+    Release,
+}
+
+impl TransactionRule {
+    pub(crate) fn sentence(self) -> &'static str
+        ensures { result.now ≡ transaction_sentence self }
+    {
+        match self {
+            TransactionRule::Ask => {
+                "`ask` takes a node, a socket, user bytes, data, 1 to 8 packets, `alo` or `xo`, and retries, \
+        as in \"call 5 ask 7 129 00000000 AA 1 alo 3\""
+            }
+            TransactionRule::Answer => {
+                "`answer` takes a node, a socket, a transaction's number and packets, \
+        as in \"call 7 answer 5 128 0 00000000:BB\""
+            }
+            TransactionRule::Retry =>
+                "`retry` takes a transaction's number, 0 to 65535, as in \"timer 5 retry 0\"",
+            TransactionRule::Release => {
+                "`release` takes socket 6 or 129, and a request's node, socket and number, \
+        as in \"timer 7 release 129 5 128 0\""
+            }
+        }
+    }
 }
 
 /// What transactions report.

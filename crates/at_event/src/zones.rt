@@ -1,14 +1,14 @@
-//! The calls and reports of zone tables.
+//! The calls and reports of zone tables, and the rules on their words.
 ghost use Rattle.std.specs.Prelude.{◌≡◌, IfSome, IsSome, Some};
 ghost use Rattle.std.specs.List.{AllByRecursion};
 ghost use Rattle.at_nbp.specs.Tuples.{IsString};
-ghost use Rattle.at_event.specs.Kinds.Zones.{IsZoneCall};
+ghost use Rattle.at_event.specs.Kinds.Zones.{IsZoneCall, zone_sentence};
 ghost use Rattle.at_zip.specs.Fault.{number_of};
 ghost use Rattle.at_zip.specs.declared.fault.ZipFault.{ZipFault as Why};
 
 use crate::ranges::ranges_of_text;
 use at_ddp::{Listed, Pascal};
-use at_zip::{Which, ZipFault};
+use at_zip::{TableChoice, ZipFault};
 use std::alloc::{Allocator, Global};
 
 /// A call about the router's zone tables.
@@ -16,11 +16,11 @@ use std::alloc::{Allocator, Global};
 pub enum ZoneCall<A: Allocator = Global> {
     /// Reads one of the router's zone tables.
     Read {
-        which: Which,
+        which: TableChoice,
     },
     /// Replaces one of the router's two zone tables by at most 1,024 names of 1 to 32 bytes.
     Set {
-        which: Which,
+        which: TableChoice,
         names: Listed<Pascal, A>,
     },
 }
@@ -44,6 +44,35 @@ fn ranges_of_texts(texts: &[Pascal])
     }
 }
 
+/// How the words of a call of zone tables must be.
+#[derive(Clone, Copy, Debug, PartialEq, Eq)]
+pub enum ZoneRule {
+    /// `call N zones`
+    Zones,
+    /// `call N setzones TEXT ..`
+    SetZones,
+    /// `call N localzones`
+    LocalZones,
+    /// `call N setlocal TEXT ..`
+    SetLocal,
+}
+
+impl ZoneRule {
+    pub(crate) fn sentence(self) -> &'static str
+        ensures { result.now ≡ zone_sentence self }
+    {
+        match self {
+            ZoneRule::Zones => "`call N zones` takes no arguments, as in \"call 5 zones\"",
+            ZoneRule::SetZones =>
+                "`setzones` takes texts of at most 32 bytes, as in \"call 1 setzones Lab Office\"",
+            ZoneRule::LocalZones =>
+                "`call N localzones` takes no arguments, as in \"call 5 localzones\"",
+            ZoneRule::SetLocal =>
+                "`setlocal` takes texts of at most 32 bytes, as in \"call 1 setlocal Lab\"",
+        }
+    }
+}
+
 /// What the router's zone tables, and those who read them, report.
 #[derive(Drop)]
 pub enum ZoneReport<A: Allocator = Global> {
@@ -53,7 +82,7 @@ pub enum ZoneReport<A: Allocator = Global> {
     TableSet,
     /// A reading of a zone table ended with these names.
     List {
-        which: Which,
+        which: TableChoice,
         names: Listed<Pascal, A>,
     },
     /// A reading of a zone table ended, since its page was refused. This is the number of the refusal.

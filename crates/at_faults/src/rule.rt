@@ -2,6 +2,7 @@
 ghost use Rattle.std.specs.Prelude.{◌≡◌, Some};
 ghost use Rattle.at_faults.specs.Sentences.{sentence};
 
+use at_event::EventRule;
 use std::error::Error;
 use std::fmt;
 use std::fmt::{Display, Formatter, Write};
@@ -29,46 +30,8 @@ pub enum Rule {
     Zones,
     /// `local TEXT ..`
     Local,
-    /// `call N CALL ..`
-    Call,
-    /// `call N zones`
-    CallZones,
-    /// `call N setzones TEXT ..`
-    SetZones,
-    /// `call N localzones`
-    CallLocalZones,
-    /// `call N setlocal TEXT ..`
-    SetLocal,
-    /// `call N ask NODE SOCKET USER DATA WANTED alo|xo RETRIES`
-    Ask,
-    /// `call N answer NODE SOCKET T USER:DATA ..`
-    Answer,
-    /// `call N pick TEXT`
-    Pick,
-    /// `call N find TEXT TEXT [TEXT]`
-    Find,
-    /// `call N claim TEXT TEXT SOCKET`
-    Claim,
-    /// `call N finish ID`
-    Finish,
-    /// `call N register TEXT TEXT SOCKET`
-    Register,
-    /// `call N unregister TEXT TEXT`
-    Unregister,
-    /// `call N open I`
-    Open,
-    /// `call N listen on|off`
-    Listen,
-    /// `call N connect NODE SOCKET`
-    Connect,
-    /// `call N write ID ITEM ..`
-    Write,
-    /// `call N read ID COUNT`
-    Read,
-    /// `call N reset ID`
-    Reset,
-    /// `call N close ID`
-    Close,
+    /// The words of a call or of a timer.
+    Event(EventRule),
     /// Pairs of hexadecimal digits, or `-`.
     Data,
     /// `deliver K N`
@@ -77,18 +40,6 @@ pub enum Rule {
     Forge,
     /// `poll N`
     Poll,
-    /// `timer N TIMER ..`
-    Timer,
-    /// `timer N retry T`
-    Retry,
-    /// `timer N release OWN NODE SOCKET T`
-    Release,
-    /// `timer N lookup ID`
-    Lookup,
-    /// `timer N resend ID`
-    Resend,
-    /// `timer N probe ID`
-    Probe,
     /// `net` comes before all other lines.
     NetFirst,
     /// `net` may appear only once.
@@ -176,62 +127,7 @@ impl Rule {
             }
             Rule::Zones => "`zones` takes names of 1 to 32 bytes, as in \"zones Lab Office\"",
             Rule::Local => "`local` takes names of 1 to 32 bytes, as in \"local Lab\"",
-            Rule::Call => {
-                "`call` takes a node and `zones`, `setzones`, `localzones`, `setlocal`, `ask`, `answer`, `pick`, \
-        `find`, `claim`, `finish`, `register`, `unregister`, `open`, `listen`, `connect`, `write`, `read`, `reset` \
-        or `close`, as in \"call 5 zones\""
-            }
-            Rule::CallZones => "`call N zones` takes no arguments, as in \"call 5 zones\"",
-            Rule::SetZones =>
-                "`setzones` takes texts of at most 32 bytes, as in \"call 1 setzones Lab Office\"",
-            Rule::CallLocalZones =>
-                "`call N localzones` takes no arguments, as in \"call 5 localzones\"",
-            Rule::SetLocal =>
-                "`setlocal` takes texts of at most 32 bytes, as in \"call 1 setlocal Lab\"",
-            Rule::Ask => {
-                "`ask` takes a node, a socket, user bytes, data, 1 to 8 packets, `alo` or `xo`, and retries, \
-        as in \"call 5 ask 7 129 00000000 AA 1 alo 3\""
-            }
-            Rule::Answer => {
-                "`answer` takes a node, a socket, a transaction's number and packets, \
-        as in \"call 7 answer 5 128 0 00000000:BB\""
-            }
-            Rule::Pick => "`pick` takes a zone of at most 32 bytes, as in \"call 5 pick Office\"",
-            Rule::Find => {
-                "`find` takes an object, a type, and a zone if needed, of at most 32 bytes each, \
-        as in \"call 5 find = LaserWriter\""
-            }
-            Rule::Claim => {
-                "`claim` takes an object and a type of at most 32 bytes each, and a socket, 1 to 254, \
-        as in \"call 5 claim Printer LaserWriter 130\""
-            }
-            Rule::Finish =>
-                "`finish` takes a lookup's identifier, 0 to 255, as in \"call 5 finish 0\"",
-            Rule::Register => {
-                "`register` takes an object and a type of at most 32 bytes each, and a socket, 1 to 254, \
-        as in \"call 7 register Printer LaserWriter 130\""
-            }
-            Rule::Unregister => {
-                "`unregister` takes an object and a type of at most 32 bytes each, \
-        as in \"call 7 unregister Printer LaserWriter\""
-            }
-            Rule::Open =>
-                "`open` takes the index of a name that was found, from 0, as in \"call 5 open 0\"",
-            Rule::Listen => "`listen` takes `on` or `off`, as in \"call 7 listen on\"",
-            Rule::Connect => {
-                "`connect` takes a node and a socket, 1 to 254 each, as in \"call 5 connect 7 130\""
-            }
-            Rule::Write => {
-                "`write` takes an end's identifier, 0 to 65535, and items, each pairs of hexadecimal digits, `-` for \
-        no bytes, or `end`, as in \"call 5 write 1 6162 end\""
-            }
-            Rule::Read => {
-                "`read` takes an end's identifier and a number of items, 0 to 65535 each, as in \"call 7 read 1 10\""
-            }
-            Rule::Reset =>
-                "`reset` takes an end's identifier, 0 to 65535, as in \"call 5 reset 1\"",
-            Rule::Close =>
-                "`close` takes an end's identifier, 0 to 65535, as in \"call 5 close 1\"",
+            Rule::Event(rule) => rule.sentence(),
             Rule::Data => "data is pairs of hexadecimal digits, or `-` for no bytes",
             Rule::Deliver =>
                 "`deliver` takes a datagram's number and a node, as in \"deliver 0 1\"",
@@ -239,21 +135,6 @@ impl Rule {
                 "`forge` takes a node and the bytes that it receives, as in \"forge 1 000D0000000A000A0105068003\""
             }
             Rule::Poll => "`poll` takes a node, as in \"poll 5\"",
-            Rule::Timer => {
-                "`timer` takes a node and `retry`, `release`, `lookup`, `resend` or `probe`, as in \"timer 5 retry 0\""
-            }
-            Rule::Retry =>
-                "`retry` takes a transaction's number, 0 to 65535, as in \"timer 5 retry 0\"",
-            Rule::Release => {
-                "`release` takes socket 6 or 129, and a request's node, socket and number, \
-        as in \"timer 7 release 129 5 128 0\""
-            }
-            Rule::Lookup =>
-                "`lookup` takes a lookup's identifier, 0 to 255, as in \"timer 5 lookup 0\"",
-            Rule::Resend =>
-                "`resend` takes an end's identifier, 0 to 65535, as in \"timer 5 resend 1\"",
-            Rule::Probe =>
-                "`probe` takes an end's identifier, 0 to 65535, as in \"timer 5 probe 1\"",
             Rule::NetFirst => "`net` must come first, as in \"net 10\"",
             Rule::NetOnce => "`net` may appear only once",
             Rule::PortSecond => "`port` must come right after `net`, as in \"port 47200\"",

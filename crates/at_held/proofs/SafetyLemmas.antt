@@ -1,10 +1,9 @@
 -- Each event that is taken is safe, if each event of its node is.
-use Rattle.std.proofs.Common.{◌≡◌, ◌∙◌, ◌+◌, ◌≤◌, ◌++◌, ℕ, List, Bool, false, true, length, map, ap, sym, subst}
+use Rattle.std.proofs.Common.{◌≡◌, ◌∙◌, ◌+◌, ◌≤◌, ◌++◌, ℕ, List, false, true, length, map, ap, sym, subst}
 use Rattle.std.proofs.Common.{Some, Result, Ok, Err, append-nil, arith}
 use Rattle.std.proofs.lemmas.List.{length-append, length-map}
 use Rattle.std.specs.Prelude.{MatchBool, OnOk}
 use Rattle.std.specs.declared.alloc.Global.{Global}
-use Rattle.at_ddp.specs.Datagrams.{Posted}
 use Rattle.at_event.specs.Outcomes.{Comes, Exactly, IsStep, Outcome, posted, wants_memory}
 use Rattle.at_event.specs.Kinds.{takes_memory}
 use Rattle.at_event.specs.declared.Call.{Call}
@@ -13,25 +12,24 @@ use Rattle.at_event.specs.declared.Report.{Report}
 use Rattle.at_event.specs.declared.Report.TheVariants as report
 use Rattle.at_event.specs.declared.service.Reply.{Reply}
 use Rattle.at_faults.specs.declared.fault.LineFault.{LineFault}
-use Rattle.at_faults.specs.declared.fault.LineFault.TheVariants.{NoMemory, Unlawful}
 use Rattle.at_held.specs.Held.{Does, Happens, HeldState, IsTaken, Plays}
 use Rattle.at_held.specs.Safety.{IsSafe}
 use Rattle.at_held.specs.Lines.{Calls, Fires, Line}
 use Rattle.at_node.specs.Hearing.{Hears}
 use Rattle.at_node.specs.Limits.{IsWithin}
 use Rattle.at_node.specs.Nodes.{NodeState, called, timed}
-use Rattle.at_steps.specs.Safety.{IsPlaceOf, IsPlaceOfCall, IsSafe as IsSafeOutcome, Place, number_told}
+use Rattle.at_steps.specs.Safety.{IsTableOf, IsTableOfCall, IsSafe as IsSafeOutcome, TransactionTable, number_told}
 use Rattle.at_nodes.specs.Taking.{Receives}
 
 -- what the layer below promises of each event of a node
 pub record SafetyLaws : Type 0 where
-  pub call : (n : NodeState) (call : Call Global) → IsWithin n → IsSafeOutcome IsPlaceOfCall n n (called n call)
+  pub call : (n : NodeState) (call : Call Global) → IsWithin n → IsSafeOutcome IsTableOfCall n n (called n call)
   pub timer : (n : NodeState) (time : Timer) → IsWithin n
-      → IsSafeOutcome {A = Global} IsPlaceOfCall n n (timed n time)
+      → IsSafeOutcome {A = Global} IsTableOfCall n n (timed n time)
   pub datagram : (n : NodeState) (said : Reply Global) (bytes : List ℕ) (o : Outcome Global NodeState) → IsWithin n
-      → Hears said n bytes o → IsSafeOutcome (IsPlaceOf bytes) n n o
+      → Hears said n bytes o → IsSafeOutcome (IsTableOf bytes) n n o
 
-module _ (P : Place → Type 0) (old new : HeldState) (r : Report Global) (kept : new.report ≡ Some r)
+module _ (P : TransactionTable → Type 0) (old new : HeldState) (r : Report Global) (kept : new.report ≡ Some r)
     (some : wants_memory r ≡ false) where
   of_outcome : (o : Outcome Global NodeState) → IsSafeOutcome P old.node old.node o
       → Exactly o old.waiting r new.node new.waiting → IsSafe P old new
@@ -70,21 +68,21 @@ module _ (P : Place → Type 0) (old new : HeldState) (r : Report Global) (kept 
       of_outcome it.0 (safe it.0 it.1) it.2
 
 module _ (laws : SafetyLaws) (old new : HeldState) (within : IsWithin old.node) where
-  of_line : (told : Line) → IsTaken (Does told) old new → IsSafe IsPlaceOfCall old new
+  of_line : (told : Line) → IsTaken (Does told) old new → IsSafe IsTableOfCall old new
   of_line (Calls call) h =
-      of_step IsPlaceOfCall old new h.0 h.3 h.2 (called old.node call) (laws.call old.node call within) h.1
+      of_step IsTableOfCall old new h.0 h.3 h.2 (called old.node call) (laws.call old.node call within) h.1
   of_line (Fires timer) h =
-      of_step IsPlaceOfCall old new h.0 h.3 h.2 (timed old.node timer) (laws.timer old.node timer within) h.1
+      of_step IsTableOfCall old new h.0 h.3 h.2 (timed old.node timer) (laws.timer old.node timer within) h.1
 
   pub played_safely : (line : List ℕ) (answer : Result (Unit {0}) LineFault) → Plays line old answer new
-      → OnOk answer (IsSafe IsPlaceOfCall old new)
+      → OnOk answer (IsSafe IsTableOfCall old new)
   played_safely line (Ok u) h = of_line h.0 h.2
   played_safely line (Err fault) h = tt
 
   pub received_safely : {E : Type 0} (bytes : List ℕ) (answer : Result (Unit {0}) E)
-      → Happens (Receives bytes) old answer new → OnOk answer (IsSafe (IsPlaceOf bytes) old new)
+      → Happens (Receives bytes) old answer new → OnOk answer (IsSafe (IsTableOf bytes) old new)
   received_safely bytes (Ok u) h =
       let step = h.1 in
-      of_coming (IsPlaceOf bytes) old new h.0 h.3 h.2 (Hears step.0 old.node bytes)
+      of_coming (IsTableOf bytes) old new h.0 h.3 h.2 (Hears step.0 old.node bytes)
       (λ o hears. laws.datagram old.node step.0 bytes o within hears) step.1
   received_safely bytes (Err e) h = tt

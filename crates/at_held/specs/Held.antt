@@ -23,22 +23,22 @@ abbrev pub IsOpened : List ℕ → ℕ → HeldState → Type 0
 IsOpened text number h = IsNodeOf text number h.node × (h.waiting ≡ []) × (h.report ≡ None)
 
 -- a step of a node: the node and what waits, the report, and both after it
-abbrev pub Step : Type 1
-Step = NodeState → List Posted → Report Global → NodeState → List Posted → Type 0
+abbrev pub NodeStep : Type 1
+NodeStep = NodeState → List Posted → Report Global → NodeState → List Posted → Type 0
 
 -- what the node is told to do by a line
-abbrev pub Does : Line → Step
+abbrev pub Does : Line → NodeStep
 Does (Calls call) n before r after out = IsStep (called n call) n before r after out
 Does (Fires timer) n before r after out = IsStep (timed n timer) n before r after out
 
 -- the step was taken, and its report is kept
-abbrev pub IsTaken : Step → HeldState → HeldState → Type 0
+abbrev pub IsTaken : NodeStep → HeldState → HeldState → Type 0
 IsTaken S old new =
     (r : Report Global) × S old.node old.waiting r new.node new.waiting × (wants_memory r ≡ false)
     × (new.report ≡ Some r)
 
 -- the step was taken; or it takes memory that is not there, and nothing changed
-abbrev pub Happens : {E : Type 0} → Step → HeldState → Result (Unit {0}) E → HeldState → Type 0
+abbrev pub Happens : {E : Type 0} → NodeStep → HeldState → Result (Unit {0}) E → HeldState → Type 0
 Happens S old (Ok u) new = IsTaken S old new
 Happens S old (Err e) new =
     (new ≡ old) × ((r : Report Global) × S old.node old.waiting r old.node old.waiting × (wants_memory r ≡ true))

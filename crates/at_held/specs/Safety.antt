@@ -5,10 +5,10 @@ use Rattle.std.specs.declared.alloc.Global.{Global}
 use Rattle.at_event.specs.declared.Report.{Report}
 use Rattle.at_event.specs.declared.Report.TheVariants as report
 use Rattle.at_held.specs.Held.{HeldState}
-use Rattle.at_steps.specs.Safety.{IsReason, Place, number_told}
+use Rattle.at_steps.specs.Safety.{IsReason, TransactionTable, number_told}
 
 -- what an event did, which may want a place for a transaction there
-pub record IsSafe (Wants : Place → Type 0) (old new : HeldState) : Type 0 where
+pub record IsSafe (Wants : TransactionTable → Type 0) (old new : HeldState) : Type 0 where
   pub refused : (number : ℕ) → new.report ≡ Some (report.Refused number)
       → (new.node ≡ old.node) × (new.waiting ≡ old.waiting)
   pub told : (r : Report Global) (number : ℕ) → new.report ≡ Some r → number_told r ≡ Some number

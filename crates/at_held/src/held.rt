@@ -7,7 +7,7 @@ ghost use Rattle.at_held.specs.Openings.{IsFault};
 ghost use Rattle.at_held.specs.Safety.{IsSafe};
 ghost use Rattle.at_node.specs.Limits.{IsWithin};
 ghost use Rattle.at_node.specs.Timers.{timers_of};
-ghost use Rattle.at_steps.specs.Safety.{IsPlaceOf, IsPlaceOfCall};
+ghost use Rattle.at_steps.specs.Safety.{IsTableOf, IsTableOfCall};
 ghost use Rattle.at_nodes.specs.Taking.{Receives, Takes};
 
 use crate::opening::{OpenFault, node_of};
@@ -62,7 +62,7 @@ impl HeldNode {
     /// `NET.NODE`. Unlawful if the line says neither. Only a call, or a timer whose step takes memory, can lack memory.
     pub fn play(&mut self, alloc: Global, line: &[u8]) -> Result<(), LineFault>
         ensures played { Plays line.now self.old result self.new }
-        ensures safe { OnOk result (IsSafe IsPlaceOfCall self.old self.new) }
+        ensures safe { OnOk result (IsSafe IsTableOfCall self.old self.new) }
         ensures within { IsWithin self.new.node }
     {
         every_event_is_safe::<Global>();
@@ -75,7 +75,7 @@ impl HeldNode {
     /// Takes bytes that came. A request for the service is reported, and answered later, by a call.
     pub fn receive(&mut self, bytes: &[u8]) -> Result<(), AllocError>
         ensures received { Happens (Receives bytes.now) self.old result self.new }
-        ensures safe { OnOk result (IsSafe (IsPlaceOf bytes.now) self.old self.new) }
+        ensures safe { OnOk result (IsSafe (IsTableOf bytes.now) self.old self.new) }
         ensures within { IsWithin self.new.node }
     {
         every_event_is_safe::<Global>();

@@ -74,10 +74,10 @@ pub record Happens (n : Network) (at : Address) (old new : SocketState) (change 
   pub is : IsHappening n at old new change pushes happening
 
 -- a packet of the network comes to the socket that it was sent to, in time, and this is what it does there
-pub record Comes (n : Network) (at : Address) (s : SocketState) (which : ℕ) (h : Heard) (new : SocketState)
+pub record Comes (n : Network) (at : Address) (s : SocketState) (datagram : ℕ) (h : Heard) (new : SocketState)
     (pushes : List (Address × List ℕ)) : Type 0 where
   pub sent : Sent
-  pub is : packet_at n.sent which ≡ Some sent
+  pub is : packet_at n.sent datagram ≡ Some sent
   pub counted : HasCount sent.packet.function (length sent.packet.tuples)
   pub here : sent.packet.function ≡ Reply → sent.to ≡ at
   pub fresh : sent.packet.function ≡ Reply → is_fresh n.begun sent ≡ true

@@ -1,6 +1,6 @@
 //! Claims of names, and the end of lookups.
-ghost use Rattle.std.specs.Prelude.{◌≡◌, ◌≢◌, ◌≤◌, ◌<◌, ◌↔◌, ◌||◌, ◌∷◌, [], length, find, Option, List, IfOk, IfErr};
-ghost use Rattle.std.specs.Prelude.{IfSome, OnErr, IsErrOf, IsOk, IsSome, Some, None, Err, true, false};
+ghost use Rattle.std.specs.Prelude.{◌≡◌, ◌≢◌, ◌≤◌, ◌<◌, ◌↔◌, ◌||◌, ◌∷◌, [], length, find, Option, IfOk, IfErr};
+ghost use Rattle.std.specs.Prelude.{IfSome, OnErr, IsErrOf, IsSome, Some, None, Err, true, false};
 ghost use Rattle.std.specs.List.{position_from};
 ghost use Rattle.at_ddp.specs.Outbox.{Sends};
 ghost use Rattle.at_name_socket.specs.NameSockets.{IsEnding, any_pattern, claim_begun, closing, finish, taker};

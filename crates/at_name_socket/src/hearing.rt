@@ -1,15 +1,15 @@
 //! What packets do at the socket.
-ghost use Rattle.std.specs.Prelude.{◌≡◌, ◌≢◌, ◌==◌, [], ◌∷◌, List, ℕ, length, map, find, IfOk, IfErr, OnErr};
-ghost use Rattle.std.specs.Prelude.{IsErrOf, IsOk, None, if◌then◌else◌};
+ghost use Rattle.std.specs.Prelude.{◌≡◌, ◌≢◌, ◌==◌, [], List, ℕ, length, find, IfOk, IfErr, OnErr};
+ghost use Rattle.std.specs.Prelude.{IsErrOf, IsOk, None};
 ghost use Rattle.std.specs.Option.{option_copied};
 ghost use Rattle.at_ddp.specs.Outbox.{Sends};
 ghost use Rattle.at_ddp.specs.declared.address.Address.{Address as At};
-ghost use Rattle.at_name_socket.specs.NameSockets.{AnswersTo, Hears, Relays, SocketState, Takes, counted};
-ghost use Rattle.at_name_socket.specs.NameSockets.{is_node, zone_of, zone_or};
+ghost use Rattle.at_name_socket.specs.NameSockets.{AnswersTo, Hears, Relays, SocketState, Takes};
+ghost use Rattle.at_name_socket.specs.NameSockets.{is_node, zone_of};
 ghost use Rattle.at_name_socket.specs.declared.step.Heard.{Heard as Come};
 ghost use Rattle.at_nbp.specs.Fault.{IsFirstFault};
 ghost use Rattle.at_nbp.specs.Lookups.{heard};
-ghost use Rattle.at_nbp.specs.Packets.{HasCount, packet_content};
+ghost use Rattle.at_nbp.specs.Packets.{packet_content};
 ghost use Rattle.at_nbp.specs.declared.fault.NbpFault.{NbpFault as Fault};
 
 use crate::neighbour::Neighbour;

@@ -50,8 +50,8 @@ pub fn a_call_is_a_happening<A: Allocator>()
 
 /// So is each packet that comes in time.
 pub fn a_packet_is_a_happening()
-    ensures comes { (n : Network) (at : Address) (s : SocketState) (which : ℕ) (h : Heard) (new : SocketState)
-        (pushes : List (Address × List ℕ)) → StandsLawfully n at s → Comes n at s which h new pushes
+    ensures comes { (n : Network) (at : Address) (s : SocketState) (datagram : ℕ) (h : Heard) (new : SocketState)
+        (pushes : List (Address × List ℕ)) → StandsLawfully n at s → Comes n at s datagram h new pushes
         → Happens n at s new Stays pushes }
     ensures nothing { (n : Network) (at : Address) (s : SocketState) → StandsLawfully n at s
         → Happens n at s s Stays [] }

@@ -3,8 +3,8 @@ ghost use Rattle.std.specs.Prelude.{◌≡◌, ◌≢◌, ◌≤◌, ◌↔◌, 
 ghost use Rattle.std.specs.Prelude.{OnErr, IsOk, IsSome, IsErrOf, Some, None, Err, ◌<◌, slice_get};
 ghost use Rattle.at_ddp.specs.Outbox.{Sends};
 ghost use Rattle.at_ddp.specs.Tables.{without_first};
-ghost use Rattle.at_name_socket.specs.NameSockets.{asked_by, asked_node, opening, own_zone};
-ghost use Rattle.at_nbp.specs.Lookups.{AreLookups, beginning, begun, is_question, next_id, search_of, sent_question};
+ghost use Rattle.at_name_socket.specs.NameSockets.{asked_by, asked_node, opening};
+ghost use Rattle.at_nbp.specs.Lookups.{AreLookups, beginning, begun, next_id, search_of, sent_question};
 ghost use Rattle.at_nbp.specs.NameTables.{AreNames, is_called, register_fault, registered};
 
 use crate::claim::Claim;

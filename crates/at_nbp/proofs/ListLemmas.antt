@@ -1,6 +1,6 @@
 -- Tuples that are measured or written so far.
 use Rattle.std.proofs.Common.{◌≡◌, ℕ, ◌+◌, ◌*◌, ◌<◌, ◌≤◌, List, [], ◌∷◌, ◌++◌, length, get_or, take, drop, map, sym, ap}
-use Rattle.std.proofs.Common.{subst, ◌∙◌, append_assoc, append-nil, arith}
+use Rattle.std.proofs.Common.{subst, ◌∙◌, append-nil, arith}
 use Rattle.std.specs.Prelude.{All}
 use Rattle.std.specs.List.{flat_map}
 use Rattle.std.proofs.lemmas.List.{map-append, map_more, get_or-map, length-append, length-map, take_all}
@@ -111,18 +111,3 @@ next_has_room old items tuples i capacity d t w lt at =
       length-append (spelled (take i tuples)) (tuple_spelling (content t)),
       spelled_take (i + 1) tuples,
     )
-
-pub written_more : (old items items' : List ℕ) (tuples : List Tuple) (i capacity capacity' : ℕ) (d t : Tuple)
-    → AreWritten old tuples i items capacity → i < length tuples → t ≡ get_or tuples i d →
-    items' ≡ items ++ tuple_spelling (content t) → capacity ≤ capacity' → AreWritten old tuples (i + 1) items' capacity'
-written_more old items items' tuples i capacity capacity' d t w lt at pushed wider = record {
-  items_are = pushed ∙ ap (λ l. l ++ tuple_spelling (content t)) w.items_are
-      ∙ append_assoc old (spelled (take i tuples)) (tuple_spelling (content t))
-      ∙ ap (λ l. old ++ l) (sym (spelled_more tuples i d t lt at));
-  room = omega (arith, w.room, wider);
-}
-
-pub written_all : (old items : List ℕ) (tuples : List Tuple) (i capacity : ℕ) → AreWritten old tuples i items capacity
-    → length tuples ≤ i → items ≡ old ++ spelled tuples
-written_all old items tuples i capacity w all = w.items_are
-    ∙ ap (λ (l : List Tuple). old ++ spelled l) (take_all i tuples all)

@@ -194,16 +194,6 @@ has_function (first ∷ id ∷ bytes) f high low whole is_high is_low named =
     record { fits = omega (arith, is_low); header = λ i. parts i ∷ id ∷ bytes }
 has_function _ f high low whole is_high is_low named = absurd (omega (arith, whole))
 
-high_is : (f : Function) (count : ℕ) → count < 16 → (16 * code f + count) / 16 ≡ code f
-high_is f count fits = omega (arith, fits)
-
-pub has_no_function : (input : List ℕ) (high : ℕ) → 2 ≤ length input → high ≡ get_or input 0 0 / 16
-    → ((f : Function) → ¬ (high ≡ code f)) → HasNoFunction input
-has_no_function input high whole is none = record {
-  whole = whole;
-  none = λ f count id bytes h. none f (is ∙ ap (λ (l : List ℕ). get_or l 0 0 / 16) h.header ∙ high_is f count h.fits);
-}
-
 pub begins_with : (input bytes rest : List ℕ) (f : Function) (count id : ℕ) (entries : List Entry)
     → HasFunction input f count id bytes → HasCount f count → id < 256 → All IsTuple entries →
     length entries ≡ count → bytes ≡ flat_map tuple_spelling entries ++ rest

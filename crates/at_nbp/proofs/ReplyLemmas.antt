@@ -76,20 +76,6 @@ full_at tuples i len size d t r lt at short is over = record {
   ];
 }
 
--- all fit
-pub full_all : (tuples : List Tuple) (i len : ℕ) → InReply tuples i len → i ≤ length tuples → length tuples ≤ i
-    → 0 < length tuples → IsFull (map content tuples) (length tuples)
-full_all tuples i len r within all some =
-    let same : i ≡ length tuples = omega (arith, within, all) in
-    record {
-      some = some;
-      few = omega (arith, r.few, same);
-      within = omega (arith, length-map tuples content);
-      fits = subst (λ n. size_of (take n (map content tuples)) ≤ 586) same
-          (omega (arith, size_at tuples i, r.size, r.fits));
-      full = inl (sym (length-map tuples content));
-    }
-
 -- ---- the names that match
 
 -- the tuples of those among the first names that match

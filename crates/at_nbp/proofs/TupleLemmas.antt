@@ -135,20 +135,6 @@ is_read_tuple (a ∷ b ∷ node ∷ socket ∷ enumerator ∷ bytes) object kind
     )
 is_read_tuple _ object kind zone rest net fits enough is first second third follows = absurd (omega (arith, enough))
 
--- the first, the second or the third string of a tuple is bad
-pub bad_first : (bytes : List ℕ) → 5 ≤ length bytes → IsBadString (drop 5 bytes) → IsTupleFault BadString bytes
-bad_first bytes enough bad = (
-  enough,
-  record {
-    strings = [];
-    each = search rules;
-    fewer = omega arith;
-    rest = drop 5 bytes;
-    follows = refl;
-    bad = bad;
-  },
-)
-
 pub bad_second : (bytes object after : List ℕ) → 5 ≤ length bytes → IsString object → drop 5 bytes
     ≡ string_spelling object ++ after → IsBadString after → IsTupleFault BadString bytes
 bad_second bytes object after enough ok is bad = (

@@ -1,5 +1,5 @@
 -- Tuples that stay in their bytes: what is cut at the front is what was spelled there.
-use Rattle.std.proofs.Common.{◌≡◌, ℕ, zero, suc, ◌+◌, ◌-◌, ◌*◌, ◌/◌, ◌%◌, ◌<◌, ◌≤◌, List, [], ◌∷◌, ◌++◌, length, Result}
+use Rattle.std.proofs.Common.{◌≡◌, ℕ, zero, suc, ◌+◌, ◌-◌, ◌*◌, ◌/◌, ◌%◌, ◌≤◌, List, [], ◌∷◌, ◌++◌, length, Result}
 use Rattle.std.proofs.Common.{Ok, Err, IsOk, refl, sym, ap, subst, ◌∙◌, append_assoc, append-nil, arith}
 use Rattle.std.specs.Prelude.{All, IfErr}
 use Rattle.std.specs.List.{flat_map}
@@ -7,7 +7,7 @@ use Rattle.std.proofs.Math.Seq.{take-append_seam, drop-append_seam}
 use Rattle.std.proofs.lemmas.List.{length-append}
 use Rattle.std.proofs.lemmas.List.Concat.{flat_map-append}
 use Rattle.std.proofs.lemmas.List.Elements.{All-head, All-tail, All-push}
-use Rattle.at_nbp.specs.Fault.{IsTupleFault, StandsAfterTuples}
+use Rattle.at_nbp.specs.Fault.{IsTupleFault}
 use Rattle.at_nbp.specs.Tuples.{Entry, FitsStrings, IsTuple, string_spelling, strings_of, tuple_spelling}
 use Rattle.at_nbp.specs.Unread.{AreUnread, after_entry, after_string, entries, entry_at, string_at}
 use Rattle.at_nbp.specs.declared.fault.NbpFault.{NbpFault}
@@ -93,17 +93,6 @@ taken_more count bytes rest after t taken ok is = record {
   counted = omega (arith, length-append taken.tuples (t ∷ []), taken.counted);
   follows = taken.follows ∙ ap (λ l. flat_map tuple_spelling taken.tuples ++ l) is
       ∙ sym (spelled_push taken.tuples t after);
-}
-
-pub fault_after : (fault : NbpFault) (bytes rest : List ℕ) (count end : ℕ) → AreTaken count bytes rest → count < end
-    → IsTupleFault fault rest → StandsAfterTuples fault end bytes
-fault_after fault bytes rest count end taken lt stands = record {
-  tuples = taken.tuples;
-  each = taken.each;
-  fewer = omega (arith, taken.counted, lt);
-  rest = rest;
-  follows = taken.follows;
-  stands = stands;
 }
 
 -- what is cut at the front is what was taken there

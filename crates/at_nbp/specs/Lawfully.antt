@@ -30,8 +30,8 @@ pub record IsLawfulSetting (setting : Setting) : Type 0 where
 abbrev pub IsInRange : Happening → Type 0
 IsInRange (Begins who pattern) = IsAddress who × IsName pattern
 IsInRange (Retries who id) = IsAddress who
-IsInRange (Answers which at replies) = IsAddress at
-IsInRange (Relays which at to zone) = IsAddress at × IsAddress to × IsString zone
+IsInRange (Answers datagram at replies) = IsAddress at
+IsInRange (Relays datagram at to zone) = IsAddress at × IsAddress to × IsString zone
 IsInRange (Registers at name) = IsNamed name
 IsInRange (Claims at id name) = IsNamed name
 IsInRange other = Unit {0}

@@ -70,11 +70,11 @@ pub data Happening : Type 0 where
   -- a lookup is closed
   Finishes : (who : Address) (id : ℕ) → Happening
   -- a packet comes to the lookups at the address that it was sent to
-  Hears : (which : ℕ) → Happening
+  Hears : (datagram : ℕ) → Happening
   -- a packet comes to the names at an address, which send these replies
-  Answers : (which : ℕ) (at : Address) (replies : List (List Entry)) → Happening
+  Answers : (datagram : ℕ) (at : Address) (replies : List (List Entry)) → Happening
   -- a packet comes to a router, which relays it to an address, with the zone of the node that asks
-  Relays : (which : ℕ) (at to : Address) (zone : List ℕ) → Happening
+  Relays : (datagram : ℕ) (at to : Address) (zone : List ℕ) → Happening
   -- a name is registered
   Registers : (at : Address) (name : Registered) → Happening
   -- the name of this object and type is taken away
@@ -138,9 +138,9 @@ abbrev pub done : Network → Happening → Network
 done n (Begins who pattern) = begins n who pattern (next_id (n.lookups who))
 done n (Retries who id) = retries n who (search_of (n.lookups who) id)
 done n (Finishes who id) = finishes n who id
-done n (Hears which) = hears n (packet_at n.sent which)
-done n (Answers which at replies) = answers n at replies (packet_at n.sent which)
-done n (Relays which at to zone) = relays n at to zone (packet_at n.sent which)
+done n (Hears datagram) = hears n (packet_at n.sent datagram)
+done n (Answers datagram at replies) = answers n at replies (packet_at n.sent datagram)
+done n (Relays datagram at to zone) = relays n at to zone (packet_at n.sent datagram)
 done n (Registers at name) = registers n at name
 done n (Unregisters at object kind) = unregisters n at object kind
 done n (Claims at id name) = registers (finishes n at id) at name
@@ -167,7 +167,7 @@ is_fresh begun s = list_all (is_no_later s.to s.packet.id s.event) begun
 
 -- each packet comes to lookups before its identifier is drawn again there
 abbrev pub IsTimely : Network → Happening → Type 0
-IsTimely n (Hears which) = (s : Sent) → packet_at n.sent which ≡ Some s → is_fresh n.begun s ≡ true
+IsTimely n (Hears datagram) = (s : Sent) → packet_at n.sent datagram ≡ Some s → is_fresh n.begun s ≡ true
 IsTimely n other = Unit {0}
 
 -- the replies to the tuple of a lookup are the names that match, and each is as full as fits
@@ -177,11 +177,11 @@ AreMatches table replies (t ∷ ts) = AreReplies (matching table (pattern_of t))
 
 -- a lookup alone is answered, with the names that match, and a request alone is relayed
 abbrev pub IsAnswered : Network → Happening → Type 0
-IsAnswered n (Answers which at replies) =
-    (s : Sent) → packet_at n.sent which ≡ Some s
+IsAnswered n (Answers datagram at replies) =
+    (s : Sent) → packet_at n.sent datagram ≡ Some s
     → (s.packet.function ≡ LookUp) × AreMatches (n.tables at) replies s.packet.tuples
-IsAnswered n (Relays which at to zone) =
-    (s : Sent) → packet_at n.sent which ≡ Some s → asks_router s.packet.function ≡ true
+IsAnswered n (Relays datagram at to zone) =
+    (s : Sent) → packet_at n.sent datagram ≡ Some s → asks_router s.packet.function ≡ true
 IsAnswered n other = Unit {0}
 
 abbrev pub AllTimely : Setting → List Happening → Type 0

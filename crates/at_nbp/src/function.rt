@@ -1,5 +1,5 @@
 //! What a packet asks or answers, and its number in bytes.
-ghost use Rattle.std.specs.Prelude.{◌≡◌, ◌≢◌, ℕ, IfSome};
+ghost use Rattle.std.specs.Prelude.{◌≡◌, ◌≢◌, IfSome};
 ghost use Rattle.at_nbp.specs.Lookups.{is_reply};
 ghost use Rattle.at_nbp.specs.Packets.{code};
 ghost use Rattle.at_nbp.specs.declared.function.Function.{Function};

@@ -1,7 +1,7 @@
 //! The table of a node's own names. `replies.rt` has its answers to lookups.
 ghost use Rattle.std.specs.Prelude.{◌≡◌, ◌||◌, ◌<◌, ◌↔◌, [], ◌∷◌, length, find, is_some, option_map};
 ghost use Rattle.std.specs.Prelude.{IfSome, IfErr, OnOk, OnErr, IsOk, IsSome, Some, None, Err};
-ghost use Rattle.std.specs.List.{list_any, position_from};
+ghost use Rattle.std.specs.List.{list_any};
 ghost use Rattle.std.specs.Option.{option_copied};
 ghost use Rattle.at_ddp.specs.Tables.{without_first};
 ghost use Rattle.at_nbp.specs.NameTables.{IsLeastFree, IsRegistered, has_number, is_called, is_no_text, own_find};

@@ -1,6 +1,6 @@
 //! One open lookup, and which tuples of a reply join its finds.
 ghost use Rattle.std.specs.Prelude.{◌≡◌, ◌≤◌, ◌<◌, ◌+◌, ◌++◌, ◌∷◌, [], true, length, None, IfOk, IfSome, OnOk, OnErr};
-ghost use Rattle.std.specs.Prelude.{IsOk, if◌then◌else◌};
+ghost use Rattle.std.specs.Prelude.{IsOk};
 ghost use Rattle.std.specs.List.{list_any};
 ghost use Rattle.indexmap.specs.IndexSet.{spare};
 ghost use Rattle.at_nbp.specs.Lookups.{all_joined, answered, asked, asking, beginning, find_of, is_star, joins};

@@ -1,11 +1,11 @@
 -- The protocols of a node, a row each: which numbers its calls, its timers and its datagrams draw, and that none of
 -- them moves the node. All else that is said of every event goes by these rows.
-use Rattle.std.proofs.Common.{◌≡◌, ℕ, Bool, true, false, List, Option, Some, None, refl, ap, arith}
+use Rattle.std.proofs.Common.{◌≡◌, ℕ, Bool, true, false, List, None, refl, ap, arith}
 use Rattle.at_ddp.specs.Datagram.{Content as Datagram}
 use Rattle.at_ddp.specs.declared.datagram.Datagram.{Datagram as Came}
 use Rattle.at_event.specs.Kinds as kinds
-use Rattle.at_event.specs.Kinds.{Kind, Adsp, Atp, Nbp, Nobody}
-use Rattle.at_event.specs.Outcomes.{Outcome, idle}
+use Rattle.at_event.specs.Kinds.{Speaker, Adsp, Atp, Nbp, Nobody}
+use Rattle.at_event.specs.Outcomes.{Outcome}
 use Rattle.at_event.specs.declared.Call.{Call}
 use Rattle.at_event.specs.declared.Call.TheVariants as protocol
 use Rattle.at_event.specs.declared.Report.{Report}
@@ -15,14 +15,12 @@ use Rattle.at_event.specs.declared.Timer.TheVariants as timer
 use Rattle.at_event.specs.declared.session.SessionCall.TheVariants.{Pick}
 use Rattle.at_event.specs.declared.service.Reply.{Reply}
 use Rattle.at_session.specs.Sessions.{SessionState, is_listed}
-use Rattle.at_packet.specs.Bodies.{IsBody, datagram_of}
+use Rattle.at_packet.specs.Bodies.{IsBody}
 use Rattle.at_packet.specs.declared.Body.{Body}
 use Rattle.at_packet.specs.declared.Body.TheVariants as body
 use Rattle.at_node.specs.Nodes.{HearsBy, HearsMine, KeepsSeat, NodeState, called, speaker_of, timed}
-use Rattle.at_node.specs.Numbers.{CarriesNumber, draw_of, drawn_by}
+use Rattle.at_node.specs.Numbers.{draw_of, drawn_by}
 use Rattle.at_node.specs.SessionCalls.{picked_as}
-use Rattle.at_node.specs.declared.numbers.Draw.{Draw}
-use Rattle.at_node.specs.declared.numbers.Draw.TheVariants.{Conn, Lookup, Tid}
 use Rattle.at_node.proofs.Drawn.{By, IsDrawn, silent}
 use Rattle.at_node.proofs.Protocols.Names.{name_call_stays, name_draws, name_timer_draws, name_timer_stays}
 use Rattle.at_node.proofs.Protocols.Names.{names_drawn}
@@ -66,7 +64,7 @@ module _ (A : Type 0) where
 
   module _ (said : Reply A) (n : NodeState) (d : Datagram) (o : Outcome A NodeState) where
     -- which number is drawn, by the part that hears it
-    drawn_as : MakingLaw → BeginningLaw A → (whose : Kind) → speaker_of d.kind ≡ whose → HearsBy said n d o whose
+    drawn_as : MakingLaw → BeginningLaw A → (whose : Speaker) → speaker_of d.kind ≡ whose → HearsBy said n d o whose
         → IsDrawn A n d o
     drawn_as making beginning Atp its h = packet_drawn A beginning said n d o its h
     drawn_as making beginning Nbp its h = names_drawn A n d o h
@@ -79,7 +77,7 @@ module _ (A : Type 0) where
     pub mine_stays : HearsMine said n d o → KeepsSeat n o
     mine_stays = stays (speaker_of d.kind)
       where
-        stays : (whose : Kind) → HearsBy said n d o whose → KeepsSeat n o
+        stays : (whose : Speaker) → HearsBy said n d o whose → KeepsSeat n o
         stays Nobody h = ap (λ (x : Outcome A NodeState). x.state.seat) h
         stays kinds.Session h = ap (λ (x : Outcome A NodeState). x.state.seat) h
         stays other h = ap (λ (x : Outcome A NodeState). x.state.seat) h.2

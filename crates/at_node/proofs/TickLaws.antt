@@ -17,7 +17,7 @@ use Rattle.at_adsp_end.specs.declared.phase.Phase.TheVariants as phase
 use Rattle.at_adsp_end.specs.declared.tick.Tick.{Tick}
 use Rattle.at_adsp_end.specs.declared.tick.Tick.TheVariants as tick
 use Rattle.at_adsp_end.specs.declared.fault.StreamFault.TheVariants.{NotOpen}
-use Rattle.at_adsp_end.specs.declared.step.Step.TheVariants as step
+use Rattle.at_adsp_end.specs.declared.change.EndChange.TheVariants as step
 use Rattle.at_adsp_ends.specs.Calls.{frees, heeding, ticked_at}
 use Rattle.at_adsp_ends.specs.Receiving.{settled}
 use Rattle.at_adsp_ends.specs.Tables.{IdsDiffer, has_id, freed}

@@ -10,7 +10,7 @@ use Rattle.at_name_socket.specs.NameSockets as names
 use Rattle.at_name_socket.specs.NameSockets.{SocketState}
 use Rattle.at_name_socket.specs.declared.neighbour.Neighbour.{Neighbour}
 use Rattle.at_zip.specs.Tables.{Tables}
-use Rattle.at_event.specs.Kinds.{Kind, Adsp, Atp, Nbp, Nobody}
+use Rattle.at_event.specs.Kinds.{Speaker, Adsp, Atp, Nbp, Nobody}
 use Rattle.at_event.specs.declared.names.NameCall.{NameCall}
 use Rattle.at_event.specs.declared.names.NameCall.TheVariants.{Find, Claim, Finish, Register, Unregister}
 use Rattle.at_event.specs.declared.session.SessionCall.{SessionCall}
@@ -139,7 +139,7 @@ timed n (timer.Streams (adsp_timer.Resend id)) = over (with_streams n) (tick_fir
 timed n (timer.Streams (adsp_timer.Probe id)) = over (with_streams n) (tick_fired n.seat n.streams id tick.Probe)
 
 -- the part that speaks a type of datagrams; nobody speaks another
-abbrev pub speaker_of : ℕ → Kind
+abbrev pub speaker_of : ℕ → Speaker
 speaker_of kind =
     if kind == atp_kind then Atp
     else (if kind == nbp_kind then Nbp
@@ -147,7 +147,7 @@ speaker_of kind =
     else Nobody))
 
 -- what a datagram does to the part that speaks its type; one that nobody speaks is ignored
-abbrev pub HearsBy : {A : Type 0} → Reply A → NodeState → Datagram → Outcome A NodeState → Kind → Type 0
+abbrev pub HearsBy : {A : Type 0} → Reply A → NodeState → Datagram → Outcome A NodeState → Speaker → Type 0
 HearsBy said n d o Atp = Through (over_atp n) (HearsAtp said n.seat n.atp d) o
 HearsBy said n d o Nbp = Over (with_names n) (HearsNames n.seat n.names d) o
 HearsBy said n d o Adsp = Over (with_streams n) (HearsStreams n.seat n.streams d) o

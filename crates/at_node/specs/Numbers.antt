@@ -95,7 +95,7 @@ DrawsBy n d (Tid tid) = (d.kind ≡ atp_kind) × HasTurn n.atp d tid
 DrawsBy n d (Lookup id) = ⊥
 DrawsBy n d (Conn id) = (d.kind ≡ adsp_kind) × Makes n.streams d id
 
--- so does only a datagram to its own number
+-- a datagram makes the node draw this number, if it is to the node's own number
 abbrev pub DrawsIt : NodeState → Datagram → Draw → Type 0
 DrawsIt n d draw = (is_mine n.seat d.to ≡ true) × DrawsBy n d draw
 
@@ -123,8 +123,8 @@ pub record IsTold (A : Type 0) (n : NodeState) (bytes : List ℕ) (draw : Draw) 
 -- with this identifier? nobody holds the identifier of a lookup
 abbrev pub holds : NodeState → ℕ → Draw → Bool
 holds n node (Tid tid) =
-    list_any (is_from node tid) n.atp.zones.zone_responder || list_any (is_from node tid)
-    n.atp.transactions.service_responder
+    list_any (is_from node tid) n.atp.zones.zone_responder
+    || list_any (is_from node tid) n.atp.transactions.service_responder
 holds n node (Lookup id) = false
 holds n node (Conn id) = list_any (has_remote_at node id) n.streams.ends
 

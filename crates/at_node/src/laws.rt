@@ -1,4 +1,5 @@
-//! Laws of what comes of calls, timers and received bytes. The functions only call the laws of the layers below: each contract is a law.
+//! Laws of what comes of calls, timers and received bytes. The functions only call the laws of the layers below: each
+//! contract is a law.
 ghost use Rattle.std.specs.Prelude.{◌≡◌, ◌↔◌, ℕ, List, None};
 ghost use Rattle.at_ddp.specs.Datagram.{IsAddress, canonical};
 ghost use Rattle.at_ddp.specs.declared.address.Address.{Address};

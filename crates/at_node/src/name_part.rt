@@ -1,7 +1,6 @@
 //! The part of a node that speaks NBP: its socket for names, and what packets do there.
 ghost use Rattle.std.specs.Prelude.{◌≡◌, Option, false};
 ghost use Rattle.at_name_socket.specs.NameSockets.{opening};
-ghost use Rattle.at_name_socket.specs.declared.neighbour.Neighbour.{Neighbour as Known};
 ghost use Rattle.at_node.specs.NameHearing.{HearsNames, told_by};
 ghost use Rattle.at_event.specs.Outcomes.{Comes};
 ghost use Rattle.at_event.specs.Services.{is_asked};

@@ -11,8 +11,8 @@ use Rattle.at_print.specs.Papers.{Page}
 use Rattle.at_print.specs.Printers.{Prints}
 use Rattle.at_print.specs.declared.printer.Printer.{Printer}
 use Rattle.at_setup.specs.declared.event.Event.{Event}
-use Rattle.at_setup.specs.declared.refusal.Fault.{Fault}
-use Rattle.at_setup.specs.declared.refusal.Fault.TheVariants as fault
+use Rattle.at_setup.specs.declared.refusal.EventFault.{EventFault}
+use Rattle.at_setup.specs.declared.refusal.EventFault.TheVariants as fault
 use Rattle.at_setup.specs.declared.setup.Setup.{Setup}
 use Rattle.at_schedule.specs.Says.{IsEventHere, SayAll}
 use Rattle.at_schedule.specs.Schedules.{event_lines}
@@ -94,7 +94,8 @@ stops_there {A} text all es e rest w w' s fresh parts h stopped =
     next : NextSays text es e
     next = next_says text all es e rest parts h
 
-    go : (f : Fault) → IsFault w e f w' → StopsIn A (Some text) false es w (stop.Event f w.events stopped.line stopped.which)
+    go : (f : EventFault) → IsFault w e f w' → StopsIn A (Some text) false es w
+        (stop.Event f w.events stopped.line stopped.datagram)
     go (fault.Refused r) faulty = (refl, (e, faulty.0, next))
     go fault.NoMemory faulty =
         (refl, inr (next.0, next.1, next.2, next.3, next.4, inr (e, next.5, faulty.2 fresh)))
@@ -138,11 +139,11 @@ module _ (A : Type 0) {W E : Type 0} (page : W → Page) (heard : E → Page) (s
 
 -- where not even a world was opened
 pub ends_unopened : (A : Type 0) {W E : Type 0} (page : W → Page) (heard : E → Page) (setup : Setup A)
-    (all : List (Event A)) (a : Printer W) (x : Diagnostics E) (s : Stop) (number : ℕ) (which : Option ℕ)
-    → s ≡ stop.Event fault.NoMemory 0 number which
+    (all : List (Event A)) (a : Printer W) (x : Diagnostics E) (s : Stop) (number : ℕ) (datagram : Option ℕ)
+    → s ≡ stop.Event fault.NoMemory 0 number datagram
     → Ends A page heard setup all (opening_world setup) a a x x
     (sofar_opened A page heard setup (opening_world setup) a x refl) a x (Err (ending.Stopped s))
-ends_unopened A page heard setup all a x s number which is =
+ends_unopened A page heard setup all a x s number datagram is =
     let before = sofar_opened A page heard setup (opening_world setup) a x refl in (
       before.0,
       before.2,

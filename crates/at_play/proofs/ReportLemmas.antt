@@ -37,7 +37,7 @@ pub after_plays : {A : Type 0} (w : WorldState) (e : Event A) (r : Report A) (w'
     → (w'.events ≡ w.events + 1) × (w'.failed ≡ false)
 after_plays w (event.Call k call) r w' h =
     let booked = (h.0).booked in (ap (λ (x : WorldState). x.events) booked, ap (λ (x : WorldState). x.failed) booked)
-after_plays w (event.Deliver which k) r w' h =
+after_plays w (event.Deliver datagram k) r w' h =
     let booked = (h.plays).booked in
     (ap (λ (x : WorldState). x.events) booked, ap (λ (x : WorldState). x.failed) booked)
 after_plays w (event.Timer k timer) r w' h =
@@ -52,7 +52,7 @@ grown w w' more is = let long = ap length is ∙ length-append w.sent more in om
 pub sent_grows : {A : Type 0} (w : WorldState) (e : Event A) (r : Report A) (w' : WorldState) → Plays w e r w'
     → length w.sent ≤ length w'.sent
 sent_grows w (event.Call k call) r w' h = grown w w' _ (ap (λ (x : WorldState). x.sent) (h.0).booked)
-sent_grows w (event.Deliver which k) r w' h = grown w w' _ (ap (λ (x : WorldState). x.sent) (h.plays).booked)
+sent_grows w (event.Deliver datagram k) r w' h = grown w w' _ (ap (λ (x : WorldState). x.sent) (h.plays).booked)
 sent_grows w (event.Timer k timer) r w' h = grown w w' _ (ap (λ (x : WorldState). x.sent) h.booked)
 sent_grows w (event.Forge k bytes) r w' h = grown w w' _ (ap (λ (x : WorldState). x.sent) h.booked)
 

@@ -20,7 +20,7 @@ use Rattle.at_print.specs.Papers.{Page}
 use Rattle.at_print.specs.declared.printer.Printer.{Printer}
 use Rattle.at_print.specs.declared.status.Status.{Status}
 use Rattle.at_setup.specs.declared.event.Event.{Event}
-use Rattle.at_setup.specs.declared.refusal.Fault.TheVariants as fault
+use Rattle.at_setup.specs.declared.refusal.EventFault.TheVariants as fault
 use Rattle.at_setup.specs.declared.setup.Setup.{Setup}
 use Rattle.at_world.specs.Plays.{opening_world}
 use Rattle.at_world.specs.Sents.{SentDatagram}
@@ -59,8 +59,8 @@ prints_told A w (e ∷ es) [] w' text h = absurd h
 stops_after : (A : Type 0) (known : Option (List ℕ)) (may_fail : Bool) (es : List (Event A)) (w : WorldState) (s : Stop)
     → w.events ≡ length es → StopsIn A known may_fail es w s → StopsAfter A known may_fail es s
 stops_after A known may_fail es w (stop.Text f) is h = h
-stops_after A known may_fail es w (stop.Event fault.NoMemory at line which) is h = h.0 ∙ is
-stops_after A known may_fail es w (stop.Event (fault.Refused r) at line which) is h = h.0 ∙ is
+stops_after A known may_fail es w (stop.Event fault.NoMemory at line datagram) is h = h.0 ∙ is
+stops_after A known may_fail es w (stop.Event (fault.Refused r) at line datagram) is h = h.0 ∙ is
 
 -- a reason for another
 ends_for : {A : Type 0} (P Q : Stop → Type 0) → ((s : Stop) → P s → Q s) → (known : Option (List ℕ))

@@ -7,7 +7,7 @@ use Rattle.std.proofs.lemmas.Bool.Decides.{nat_tests}
 use Rattle.at_diagnostics.specs.declared.stop.Stop.{Stop}
 use Rattle.at_diagnostics.specs.declared.stop.Stop.TheVariants as stop
 use Rattle.at_setup.specs.declared.event.Event.{Event}
-use Rattle.at_setup.specs.declared.refusal.Fault.TheVariants as fault
+use Rattle.at_setup.specs.declared.refusal.EventFault.TheVariants as fault
 use Rattle.at_setup.specs.declared.setup.Setup.{Setup}
 use Rattle.at_setup_lines.specs.Drafts.{Draft}
 use Rattle.at_schedule.specs.Drafts.{BeginSchedule, HoldsSetup, IsSchedule}
@@ -87,7 +87,8 @@ module _ (A : Type 0) (setup : Setup A) (all rest later : List ℕ) (es : List (
   )
 
   lacking : SetupFirst → (w : WorldState) → w.failed ≡ false
-      → (IsKept line ⊎ ((is_event_line line ≡ true) × ((e : Event A) × Says line e × (w.failed ≡ false → IsPlayable w e))))
+      → (IsKept line ⊎ ((is_event_line line ≡ true) × ((e : Event A) × Says line e × (w.failed ≡ false
+      → IsPlayable w e))))
       → (es ≡ []) ⊎ NextTakesMemory all es w
   lacking law w fresh (inl keeps) = kept law w (is_event_line line) refl keeps
   lacking law w fresh (inr (event, (e, says, can))) = inr (playable w e event says (can fresh))
@@ -95,7 +96,7 @@ module _ (A : Type 0) (setup : Setup A) (all rest later : List ℕ) (es : List (
   pub stops_text : SetupFirst → (w : WorldState) (s : Stop) → w.failed ≡ false → StopsLine A d line w s
       → StopsIn A (Some all) false es w s
   stops_text law w (stop.Text f) fresh stops = absurd (stops.1 h.lines h.read begins)
-  stops_text law w (stop.Event fault.NoMemory n number which) fresh stops = (stops.0, lacking law w fresh stops.1)
-  stops_text law w (stop.Event (fault.Refused r) n number which) fresh stops =
+  stops_text law w (stop.Event fault.NoMemory n number datagram) fresh stops = (stops.0, lacking law w fresh stops.1)
+  stops_text law w (stop.Event (fault.Refused r) n number datagram) fresh stops =
       let e = stops.2.0 in
       (stops.0, (e, stops.2.1, next_said A (Some all) (Some rest) (Some later) es d line h cut e stops.1 stops.2.2))

@@ -5,8 +5,8 @@ use Rattle.std.proofs.lemmas.Bool.{true≢false}
 use Rattle.std.proofs.Common.{append_assoc}
 use Rattle.at_event.specs.declared.Report.{Report}
 use Rattle.at_setup.specs.declared.event.Event.{Event}
-use Rattle.at_setup.specs.declared.refusal.Fault.{Fault}
-use Rattle.at_setup.specs.declared.refusal.Fault.TheVariants as fault
+use Rattle.at_setup.specs.declared.refusal.EventFault.{EventFault}
+use Rattle.at_setup.specs.declared.refusal.EventFault.TheVariants as fault
 use Rattle.at_world.specs.Safety.{IsSafe, Safely}
 use Rattle.at_world.specs.Worlds.{WorldState, IsFault, IsPlayable, Plays}
 use Rattle.at_world.specs.Plays.{Follows}
@@ -93,17 +93,17 @@ safely_told A w (e ∷ es) (r ∷ rs) w' text few h =
 safely_told A w [] (r ∷ rs) w' text few h = absurd h
 safely_told A w (e ∷ es) [] w' text few h = absurd h
 
-refused : (A : Type 0) (d : Draft) (line : List ℕ) (w : WorldState) (e : Event A) (w' : WorldState) (f : Fault)
-    (number : ℕ) (which : Option ℕ) → is_event_line line ≡ true → Says line e → IsFault w e f w'
-    → StopsLine A d line w (stop.Event f w.events number which)
-refused A d line w e w' (fault.Refused r) number which event says h = (refl, event, (e, h.0, says))
-refused A d line w e w' fault.NoMemory number which event says h = (refl, inr (event, (e, says, h.2)))
+refused : (A : Type 0) (d : Draft) (line : List ℕ) (w : WorldState) (e : Event A) (w' : WorldState) (f : EventFault)
+    (number : ℕ) (datagram : Option ℕ) → is_event_line line ≡ true → Says line e → IsFault w e f w'
+    → StopsLine A d line w (stop.Event f w.events number datagram)
+refused A d line w e w' (fault.Refused r) number datagram event says h = (refl, event, (e, h.0, says))
+refused A d line w e w' fault.NoMemory number datagram event says h = (refl, inr (event, (e, says, h.2)))
 
 -- if the event of a line was not played, the play stops
 pub stops_refused : (A : Type 0) (d : Draft) (line : List ℕ) (w : WorldState) (e : Event A) (w' : WorldState) (s : Stop)
     → is_event_line line ≡ true → Says line e → IsStopped w e w' s → StopsLine A d line w s
 stops_refused A d line w e w' s event says h = subst (StopsLine A d line w) (sym h.says)
-    (refused A d line w e w' h.fault h.line h.which event says h.faulty)
+    (refused A d line w e w' h.fault h.line h.datagram event says h.faulty)
 
 -- an event that a line says was not played
 pub stops_said : (A : Type 0) (d : Draft) (line : List ℕ) (w w' : WorldState) (e : Event A) (r : Result (Unit {0}) Stop)
@@ -117,9 +117,9 @@ pub stops_unread : FirstLine → (A : Type 0) (first known : Option (List ℕ)) 
     (w : WorldState) (at : ℕ) (s : Stop) → HasRead A first known es d → at ≡ w.events → IsUnreadIn known at s
     → StopsIn A first true es w s
 stops_unread law A first known es d w at (stop.Text f) h is unread = (refl, inl unread)
-stops_unread law A first known es d w at (stop.Event fault.NoMemory n number which) h is unread =
+stops_unread law A first known es d w at (stop.Event fault.NoMemory n number datagram) h is unread =
     (unread.0 ∙ is, inr (left_some law A first known es d h unread.1))
-stops_unread law A first known es d w at (stop.Event (fault.Refused r) n number which) h is unread = absurd unread
+stops_unread law A first known es d w at (stop.Event (fault.Refused r) n number datagram) h is unread = absurd unread
 
 -- where the play of a line stops, the play of a file stops
 pub stops_read : (A : Type 0) (first known after : Option (List ℕ)) (es : List (Event A)) (d : Draft) (line : List ℕ)
@@ -127,9 +127,9 @@ pub stops_read : (A : Type 0) (first known after : Option (List ℕ)) (es : List
     → StopsIn A first true es w s
 stops_read A first known after es d line w (stop.Text f) h cuts stops =
     (refl, inr (stops.0, breaks_off A first known after es d line h cuts stops.1))
-stops_read A first known after es d line w (stop.Event fault.NoMemory n number which) h cuts stops =
+stops_read A first known after es d line w (stop.Event fault.NoMemory n number datagram) h cuts stops =
     (stops.0, inr (line_left A first known after es d line h cuts))
-stops_read A first known after es d line w (stop.Event (fault.Refused r) n number which) h cuts stops =
+stops_read A first known after es d line w (stop.Event (fault.Refused r) n number datagram) h cuts stops =
     let e = stops.2.0 in
     (stops.0, (e, stops.2.1, next_said A first known after es d line h cuts e stops.1 stops.2.2))
 
@@ -170,10 +170,10 @@ module _ (A : Type 0) {W E : Type 0} (page : W → Page) (heard : E → Page) (s
 
   -- a play that stops before its first event
   pub stops_first : (known : Option (List ℕ)) (may_fail : Bool) (a : Printer W) (x : Diagnostics E) (s : Stop)
-      (number : ℕ) (which : Option ℕ) → s ≡ stop.Event fault.NoMemory 0 number which
+      (number : ℕ) (datagram : Option ℕ) → s ≡ stop.Event fault.NoMemory 0 number datagram
       → (p : Played setup) × Prints page a a p.text × IsWhole A known may_fail (Err (ending.Stopped s)) p
       × TellsReports heard 0 p.reports x x
-  stops_first known may_fail a x s number which is = (
+  stops_first known may_fail a x s number datagram is = (
     opened A setup,
     Prints-nothing page a,
     (subst (StopsIn A known may_fail [] (opening_world setup)) (sym is) (refl, inl refl), none_said A known),
@@ -255,7 +255,8 @@ module _ (A : Type 0) {W E : Type 0} (page : W → Page) (heard : E → Page) (s
   )
 
   -- one line more of those that are left
-  pub line_played : (number : ℕ) (line : List ℕ) (first known after : Option (List ℕ)) (d d' : Draft) (w w' : WorldState)
+  pub line_played : (number : ℕ) (line : List ℕ) (first known after : Option (List ℕ)) (d d' : Draft)
+      (w w' : WorldState)
       (a b c : Printer W) (u v z : Diagnostics E) (before : Sofar A page heard setup w a b u v)
       → HasRead A first known (before.0).events d → Cuts known line after
       → ((lines : List (List ℕ)) → IsRead A lines d → IsRead A (lines ++ line ∷ []) d')
@@ -271,8 +272,8 @@ module _ (A : Type 0) {W E : Type 0} (page : W → Page) (heard : E → Page) (s
 stops_unknown : (A : Type 0) (text : List ℕ) (es : List (Event A)) (w : WorldState) (s : Stop)
     → StopsIn A (Some text) false es w s → StopsIn A None false es w s
 stops_unknown A text es w (stop.Text f) h = absurd (true≢false (sym h.0))
-stops_unknown A text es w (stop.Event fault.NoMemory n number which) h = (h.0, inr tt)
-stops_unknown A text es w (stop.Event (fault.Refused r) n number which) h = (h.0, (h.1.0, h.1.1, tt))
+stops_unknown A text es w (stop.Event fault.NoMemory n number datagram) h = (h.0, inr tt)
+stops_unknown A text es w (stop.Event (fault.Refused r) n number datagram) h = (h.0, (h.1.0, h.1.1, tt))
 
 -- a line of what was read is at fault in the text that is known
 pub fault_of : (A : Type 0) (known : Option (List ℕ)) (bytes all : List ℕ) (f : Why)

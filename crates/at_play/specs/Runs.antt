@@ -29,7 +29,7 @@ PrintsReports at number (r ∷ rs) text =
 -- the text could not be read on after these events, or the event of the place behind them was not played
 abbrev pub StopsAfter : (A : Type 0) → Option (List ℕ) → Bool → List (Event A) → Stop → Type 0
 StopsAfter A known may_fail es (stop.Text f) = FailsAfter A known may_fail es f
-StopsAfter A known may_fail es (stop.Event fault at line which) = at ≡ length es
+StopsAfter A known may_fail es (stop.Event fault at line datagram) = at ≡ length es
 
 -- Events of a lawful setup have one report each, which are printed and told. The events are those of the first event
 -- lines. If none is forged, the reports are a run of the machine from its opening.

@@ -8,8 +8,8 @@ use Rattle.at_faults.specs.declared.fault.Fault.{Fault as TextFault}
 use Rattle.at_faults.specs.declared.fault.Fault.TheVariants as why
 use Rattle.at_faults.specs.declared.fault.Unreadable.TheVariants.{Changed}
 use Rattle.at_setup.specs.declared.event.Event.{Event}
-use Rattle.at_setup.specs.declared.refusal.Fault.{Fault as WorldFault}
-use Rattle.at_setup.specs.declared.refusal.Fault.TheVariants as world
+use Rattle.at_setup.specs.declared.refusal.EventFault.{EventFault}
+use Rattle.at_setup.specs.declared.refusal.EventFault.TheVariants as world
 use Rattle.at_setup.specs.declared.setup.Setup.{Setup}
 use Rattle.at_setup_lines.specs.Drafts.{Draft}
 use Rattle.at_world.specs.Plays.{opening_world}
@@ -67,10 +67,10 @@ TellsLine A page heard net number false line w w' old new before after =
 
 -- an event was not played, and this is why
 pub record IsStopped {A : Type 0} (w : WorldState) (e : Event A) (w' : WorldState) (s : Stop) : Type 0 where
-  pub fault : WorldFault
+  pub fault : EventFault
   pub line : ℕ
-  pub which : Option ℕ
-  pub says : s ≡ stop.Event fault w.events line which
+  pub datagram : Option ℕ
+  pub says : s ≡ stop.Event fault w.events line datagram
   pub faulty : IsFault w e fault w'
 
 -- Events that were played in their order from the opening world on, one report each, and what is printed of them. The
@@ -134,9 +134,9 @@ FailsAfter A known may_fail es f =
 -- event or where some is taken. Or the event of the next event line is refused so.
 abbrev pub StopsIn : (A : Type 0) → Option (List ℕ) → Bool → List (Event A) → WorldState → Stop → Type 0
 StopsIn A known may_fail es w (stop.Text f) = FailsAfter A known may_fail es f
-StopsIn A known may_fail es w (stop.Event world.NoMemory at line which) =
+StopsIn A known may_fail es w (stop.Event world.NoMemory at line datagram) =
     (at ≡ w.events) × ((es ≡ []) ⊎ IfSome known (λ text. TakesMemory may_fail text es w))
-StopsIn A known may_fail es w (stop.Event (world.Refused r) at line which) =
+StopsIn A known may_fail es w (stop.Event (world.Refused r) at line datagram) =
     (at ≡ w.events) × ((e : Event A) × Refuses w e r × IfSome known (λ text. NextSays text es e))
 
 -- Why a play stops at one line, before which this was read. No schedule begins with the lines up to it. Or memory ran
@@ -145,18 +145,18 @@ abbrev pub StopsLine : (A : Type 0) → Draft → List ℕ → WorldState → St
 StopsLine A d line w (stop.Text f) =
     (f ≡ why.Unreadable Changed)
     × ((lines : List (List ℕ)) → IsRead A lines d → ¬ BeginSchedule A (lines ++ line ∷ []))
-StopsLine A d line w (stop.Event world.NoMemory at number which) =
+StopsLine A d line w (stop.Event world.NoMemory at number datagram) =
     (at ≡ w.events)
     × (IsKept line
     ⊎ ((is_event_line line ≡ true) × ((e : Event A) × Says line e × (w.failed ≡ false → IsPlayable w e))))
-StopsLine A d line w (stop.Event (world.Refused r) at number which) =
+StopsLine A d line w (stop.Event (world.Refused r) at number datagram) =
     (at ≡ w.events) × (is_event_line line ≡ true) × ((e : Event A) × Refuses w e r × Says line e)
 
 -- the next of the bytes that are left could not be read before the event of this place
 abbrev pub IsUnreadIn : Option (List ℕ) → ℕ → Stop → Type 0
 IsUnreadIn known at (stop.Text f) = IsFailedRead f
-IsUnreadIn known at (stop.Event world.NoMemory n line which) = (n ≡ at) × IfSome known (λ text. 0 < length text)
-IsUnreadIn known at (stop.Event (world.Refused r) n line which) = ⊥
+IsUnreadIn known at (stop.Event world.NoMemory n line datagram) = (n ≡ at) × IfSome known (λ text. 0 < length text)
+IsUnreadIn known at (stop.Event (world.Refused r) n line datagram) = ⊥
 
 -- The events are what the event lines say, if the schedule's text is known: what all of them say, or the first ones if
 -- the play stopped, or a write failed. It stops only for such a reason.

@@ -173,7 +173,7 @@ pub(crate) fn play_event<A: Allocator + Copy, W: Paper, E: Paper>(
             fault: *fault,
             at,
             line,
-            which: delivered(event),
+            datagram: delivered(event),
         }),
     }
 }
@@ -181,7 +181,7 @@ pub(crate) fn play_event<A: Allocator + Copy, W: Paper, E: Paper>(
 // The number of the datagram that is to be delivered.
 fn delivered<A: Allocator>(event: &Event<A>) -> Option<u64> {
     match event {
-        Event::Deliver { which, .. } => Some(*which),
+        Event::Deliver { datagram, .. } => Some(*datagram),
         _ => None,
     }
 }

@@ -1,5 +1,5 @@
 //! The play of a schedule that lies in memory, from its text to what is printed.
-ghost use Rattle.std.specs.Prelude.{◌≡◌, ◌≤◌, List, ℕ, Some, length};
+ghost use Rattle.std.specs.Prelude.{List, ℕ, Some};
 ghost use Rattle.at_play.specs.Ends.{IsUnwritten, PlayText, PlaysText};
 ghost use Rattle.at_print.specs.Printers.{HasFailed, Prints};
 

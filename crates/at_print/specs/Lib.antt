@@ -4,6 +4,7 @@ pub mod NameLines
 pub mod Papers
 pub mod Parts
 pub mod Printers
+pub mod Refusals
 pub mod Reports
 pub mod Requesters
 pub mod SegmentLines

@@ -1,13 +1,14 @@
--- What is printed of a report, of a timer and of a datagram, a row a protocol.
-use Rattle.std.specs.Prelude.{ℕ, List, ◌++◌, codes}
+-- What is printed of a report, of a timer, of a datagram and of its data, a row a protocol.
+use Rattle.std.specs.Prelude.{MatchBool, ◌≡◌, ◌==◌, ℕ, List, ◌++◌, codes}
 use Rattle.std.specs.Fmt.{decimal}
 use Rattle.at_event.specs.declared.Report.{Report}
 use Rattle.at_event.specs.declared.Report.TheVariants as report
 use Rattle.at_event.specs.declared.Timer.{Timer}
 use Rattle.at_event.specs.declared.Timer.TheVariants as timer
-use Rattle.at_print.specs.Lines.{hex_text}
-use Rattle.at_print.specs.Reports.Names.{name_report_text, name_timer_text}
-use Rattle.at_print.specs.Reports.Streams.{stream_text, stream_timer_text}
+use Rattle.at_print.specs.Lines.{hex_text, raw_line}
+use Rattle.at_print.specs.Reports.Names.{IsNames, NamesText, name_report_text, name_timer_text}
+use Rattle.at_print.specs.Reports.Streams.{IsSegment, SegmentText, stream_text, stream_timer_text}
+use Rattle.at_print.specs.Reports.Transactions.{IsPacket, PacketText}
 use Rattle.at_print.specs.Reports.Transactions.{transaction_text, transaction_text_at, transaction_timer_text}
 use Rattle.at_print.specs.Reports.Zones.{zone_report_text}
 pub mod Names
@@ -53,3 +54,17 @@ timer_line net t = codes "timer " ++ (timer_text net t ++ codes "\n")
 abbrev pub datagram_line : ℕ → ℕ → List ℕ → List ℕ
 datagram_line number to bytes =
     (codes "sent " ++ (decimal number ++ (codes " " ++ (decimal to ++ codes " ")))) ++ (hex_text bytes ++ codes "\n")
+
+-- the data of a datagram of this type can be read; of the protocols that are read, NBP is number 2, ATP 3 and ADSP 7, and
+-- the data of any other is printed as it is
+abbrev pub IsReadable : ℕ → List ℕ → Type 0
+IsReadable kind bytes =
+    MatchBool (kind == 2) (IsNames bytes)
+    (MatchBool (kind == 3) (IsPacket bytes) (MatchBool (kind == 7) (IsSegment bytes) (Unit {0})))
+
+-- what is printed of the data of any datagram
+abbrev pub DataText : ℕ → List ℕ → List ℕ → Type 0
+DataText kind bytes text =
+    MatchBool (kind == 2) (NamesText bytes text)
+    (MatchBool (kind == 3) (PacketText bytes text)
+    (MatchBool (kind == 7) (SegmentText bytes text) (text ≡ raw_line bytes)))

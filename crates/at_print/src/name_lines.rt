@@ -1,5 +1,4 @@
 //! How NBP packets print: a line for the packet, and one for each of its tuples.
-ghost use Rattle.std.specs.Prelude.{◌++◌};
 ghost use Rattle.std.specs.List.{flat_map};
 ghost use Rattle.at_nbp.specs.Packets.{packet_content};
 ghost use Rattle.at_nbp.specs.Tuples.{content};
@@ -15,7 +14,7 @@ use crate::text_words::write_text;
 use at_nbp::{Function, Packet, Tuple, Tuples};
 
 /// The line of an NBP packet, and a line for each tuple.
-pub fn write_names<W: Paper>(printer: &mut Printer<W>, packet: &Packet<'_>)
+pub(crate) fn write_names<W: Paper>(printer: &mut Printer<W>, packet: &Packet<'_>)
     ensures { Prints W.page printer.old printer.new (names_lines (packet_content packet.now)) }
 {
     printer.write_all(b"nbp ");

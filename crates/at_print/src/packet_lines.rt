@@ -62,7 +62,7 @@ pub(crate) fn write_address<W: Paper>(printer: &mut Printer<W>, address: Address
 }
 
 /// The line of data that is not read.
-pub fn write_raw<W: Paper>(printer: &mut Printer<W>, bytes: &[u8])
+pub(crate) fn write_raw<W: Paper>(printer: &mut Printer<W>, bytes: &[u8])
     ensures { Prints W.page printer.old printer.new (raw_line bytes.now) }
 {
     printer.write_all(b"raw ");
@@ -71,7 +71,7 @@ pub fn write_raw<W: Paper>(printer: &mut Printer<W>, bytes: &[u8])
 }
 
 /// The line of an ATP packet.
-pub fn write_frame<W: Paper>(printer: &mut Printer<W>, frame: &Frame<'_>)
+pub(crate) fn write_frame<W: Paper>(printer: &mut Printer<W>, frame: &Frame<'_>)
     ensures { Prints W.page printer.old printer.new (packet_line (packet_of frame.now)) }
 {
     match frame {
@@ -96,7 +96,7 @@ pub fn write_frame<W: Paper>(printer: &mut Printer<W>, frame: &Frame<'_>)
             write_parts(printer, *user, data_);
         }
         Frame::Response {
-            place,
+            sequence_number,
             eom,
             sts,
             tid,
@@ -105,7 +105,7 @@ pub fn write_frame<W: Paper>(printer: &mut Printer<W>, frame: &Frame<'_>)
         } => {
             printer.write_each(&[
                 Part::Text(b"atp response place "),
-                Part::Number(*place as u64),
+                Part::Number(*sequence_number as u64),
                 Part::Text(b" eom "),
                 Part::Number(u64::from(*eom)),
                 Part::Text(b" sts "),

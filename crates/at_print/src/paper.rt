@@ -1,5 +1,5 @@
 //! What a printer prints to.
-ghost use Rattle.std.specs.Prelude.{◌≡◌, true, [], List, Result, ℕ, OnOk};
+ghost use Rattle.std.specs.Prelude.{true, [], Result, OnOk};
 ghost use Rattle.std.specs.declared.io.Error.{Error as Fault};
 ghost use Rattle.at_print.specs.Papers.{Notes, Page, Writes};
 

@@ -1,22 +1,27 @@
-//! What is printed of a report, of a timer and of a datagram. A protocol has a file below this one.
-ghost use Rattle.std.specs.Prelude.{◌≡◌, ◌≤◌, ◌++◌, [], codes, length};
+//! What is printed of a report, of a timer, of a datagram and of its data. A protocol has a file below this one.
+ghost use Rattle.std.specs.Prelude.{◌≡◌, ◌↔◌, ◌≤◌, ◌++◌, [], IfErr, IsOk, List, ℕ, codes, length};
 ghost use Rattle.std.specs.Fmt.{decimal};
+ghost use Rattle.at_event.specs.Kinds.{number_of};
 ghost use Rattle.at_print.specs.Printers.{Prints};
+ghost use Rattle.at_print.specs.Refusals.{refusal_line};
 ghost use Rattle.at_print.specs.Reports.{datagram_line, event_line, event_line_at, report_text};
-ghost use Rattle.at_print.specs.Reports.{timer_line};
+ghost use Rattle.at_print.specs.Reports.{DataText, IsReadable, timer_line};
 
+use crate::packet_lines::write_raw;
 use crate::paper::Paper;
 use crate::piece::{
     HEAD, Piece, TIMER, end_with_hex, end_with_number, end_with_pairs, end_with_word,
 };
-use crate::print::names::{write_name_report, write_name_timer};
-use crate::print::streams::{write_stream_report, write_stream_timer};
+use crate::print::names::{write_name_data, write_name_report, write_name_timer};
+use crate::print::streams::{write_stream_data, write_stream_report, write_stream_timer};
 use crate::print::transactions::{
-    write_transaction_report, write_transaction_report_at, write_transaction_timer,
+    write_transaction_data, write_transaction_report, write_transaction_report_at,
+    write_transaction_timer,
 };
 use crate::print::zones::write_zone_report;
 use crate::printer::Printer;
-use at_event::{Report, Timer};
+use at_ddp::{ADSP, ATP, NBP};
+use at_event::{Reason, Report, Timer};
 use std::alloc::Allocator;
 
 mod names;
@@ -118,5 +123,26 @@ pub fn write_timer<W: Paper>(printer: &mut Printer<W>, net: u16, timer: Timer)
         Timer::Transactions(timer) => write_transaction_timer(printer, &mut line, net, timer),
         Timer::Names(timer) => write_name_timer(printer, &mut line, timer),
         Timer::Streams(timer) => write_stream_timer(printer, &mut line, timer),
+    }
+}
+
+/// Prints the data of a datagram of this type: the lines of its packet, or the bytes, if the type is of no protocol
+/// that is read. An error says why the packet is refused, and prints nothing.
+pub fn write_data<W: Paper>(printer: &mut Printer<W>, kind: u8, bytes: &[u8]) -> Result<(), Reason>
+    ensures done { IsOk result ↔ IsReadable kind bytes.now }
+    ensures printed { IsOk result → (text : List ℕ) × DataText kind bytes.now text
+        × Prints W.page printer.old printer.new text }
+    ensures refused { IfErr result (λ reason. DataText kind bytes.now (refusal_line (number_of reason))
+        × (printer.new ≡ printer.old)) }
+{
+    if kind == NBP {
+        write_name_data(printer, bytes)
+    } else if kind == ATP {
+        write_transaction_data(printer, bytes)
+    } else if kind == ADSP {
+        write_stream_data(printer, bytes)
+    } else {
+        write_raw(printer, bytes);
+        Ok(())
     }
 }

@@ -10,7 +10,7 @@ use crate::printer::Printer;
 use at_adsp_frame::{Body, Segment};
 
 /// The line of an ADSP segment.
-pub fn write_segment<W: Paper>(printer: &mut Printer<W>, segment: &Segment<'_>)
+pub(crate) fn write_segment<W: Paper>(printer: &mut Printer<W>, segment: &Segment<'_>)
     ensures { Prints W.page printer.old printer.new (segment_line (content segment.now)) }
 {
     printer.write_each(&[

@@ -1,6 +1,6 @@
 -- What was played of a schedule, without printing it.
 use Rattle.std.proofs.Common.{◌≡◌, ℕ, ◌<◌, List, [], length, Err, Ok, Some, None, false, inl, inr, refl, sym, ap, subst}
-use Rattle.std.proofs.Common.{◌∙◌, append-nil, ◌++◌}
+use Rattle.std.proofs.Common.{◌∙◌, append-nil}
 use Rattle.std.proofs.lemmas.Bool.{true≢false}
 use Rattle.std.specs.Prelude.{◌↔◌, IfSome, IsErr, IsOk, Option, Result}
 use Rattle.at_diagnostics.specs.declared.diagnostics.Diagnostics.{Diagnostics}
@@ -13,7 +13,7 @@ use Rattle.at_play.specs.Told.{BeginsWith, Played, StopsIn, TellsReports}
 use Rattle.at_play.proofs.LineLemmas.{none_said}
 use Rattle.at_play.proofs.ToldLemmas.{Sofar, sofar_opened}
 use Rattle.at_print.specs.Papers.{Page}
-use Rattle.at_print.specs.Printers.{HasFailed, Prints}
+use Rattle.at_print.specs.Printers.{Prints}
 use Rattle.at_print.specs.declared.printer.Printer.{Printer}
 use Rattle.at_print.specs.declared.status.Status.{Status}
 use Rattle.at_print.specs.declared.status.Status.TheVariants.{Done, Failed}
@@ -23,8 +23,8 @@ use Rattle.at_record.specs.Unseen.{unseen, unseen_page}
 use Rattle.at_schedule.specs.Says.{SayAll}
 use Rattle.at_schedule.specs.Schedules.{event_lines}
 use Rattle.at_setup.specs.declared.event.Event.{Event}
-use Rattle.at_setup.specs.declared.refusal.Fault.{Fault}
-use Rattle.at_setup.specs.declared.refusal.Fault.TheVariants as fault
+use Rattle.at_setup.specs.declared.refusal.EventFault.{EventFault}
+use Rattle.at_setup.specs.declared.refusal.EventFault.TheVariants as fault
 use Rattle.at_setup.specs.declared.setup.Setup.{Setup}
 use Rattle.at_world.specs.Plays.{opening_world}
 use Rattle.at_world.specs.Sents.{SentDatagram}
@@ -35,7 +35,7 @@ pub unseen_prints : (text : List ℕ) → Prints unseen_page unseen unseen text
 unseen_prints text = record { stopped = λ failed. refl; written = inr tt; tied = λ tied. tied }
 
 -- an event that is not played sends nothing
-pub sent_kept : {A : Type 0} (w : WorldState) (e : Event A) (f : Fault) (w' : WorldState) → IsFault w e f w'
+pub sent_kept : {A : Type 0} (w : WorldState) (e : Event A) (f : EventFault) (w' : WorldState) → IsFault w e f w'
     → w'.sent ≡ w.sent
 sent_kept w e (fault.Refused r) w' h = ap (λ (x : WorldState). x.sent) h.1
 sent_kept w e fault.NoMemory w' h = h.1
@@ -78,9 +78,9 @@ module _ (A : Type 0) {E : Type 0} (heard : E → Page) (setup : Setup A) where
   }
 
   -- it stopped before its first event
-  pub played_none : (known : Option (List ℕ)) (x : Diagnostics E) (s : Stop) (number : ℕ) (which : Option ℕ)
-      → s ≡ stop.Event fault.NoMemory 0 number which → PlaysEvents A heard known setup (Err s) [] x x
-  played_none known x s number which is =
+  pub played_none : (known : Option (List ℕ)) (x : Diagnostics E) (s : Stop) (number : ℕ) (datagram : Option ℕ)
+      → s ≡ stop.Event fault.NoMemory 0 number datagram → PlaysEvents A heard known setup (Err s) [] x x
+  played_none known x s number datagram is =
       played_some known (opening_world setup) [] x x x s refl refl (opened (opening_world setup) x refl)
       (subst (StopsIn A known false [] (opening_world setup)) (sym is) (refl, inl refl)) (none_said A known)
 
@@ -88,8 +88,8 @@ module _ (A : Type 0) {E : Type 0} (heard : E → Page) (setup : Setup A) where
 stops_unknown : (A : Type 0) (text : List ℕ) (es : List (Event A)) (w : WorldState) (s : Stop)
     → StopsIn A (Some text) false es w s → StopsIn A None false es w s
 stops_unknown A text es w (stop.Text f) h = absurd (true≢false (sym h.0))
-stops_unknown A text es w (stop.Event fault.NoMemory n number which) h = (h.0, inr tt)
-stops_unknown A text es w (stop.Event (fault.Refused r) n number which) h = (h.0, (h.1.0, h.1.1, tt))
+stops_unknown A text es w (stop.Event fault.NoMemory n number datagram) h = (h.0, inr tt)
+stops_unknown A text es w (stop.Event (fault.Refused r) n number datagram) h = (h.0, (h.1.0, h.1.1, tt))
 
 -- what was read is the text that is known, so its lines say the events
 pub said_of_read : (A : Type 0) (setup : Setup A) (known : Option (List ℕ)) (bytes all : List ℕ)

@@ -1,6 +1,6 @@
 -- The records of what a world sent, one after the other.
 use Rattle.std.proofs.Common.{◌≡◌, ℕ, ◌+◌, ◌<◌, ◌≤◌, List, [], ◌∷◌, ◌++◌, length, take, drop, get_or, sym, ap, subst}
-use Rattle.std.proofs.Common.{◌∙◌, Some, map, drop_of_length-le}
+use Rattle.std.proofs.Common.{◌∙◌, Some, drop_of_length-le}
 use Rattle.std.proofs.lemmas.List.{drop_more, take_more}
 use Rattle.std.proofs.lemmas.List.Elements.{All-push}
 use Rattle.std.proofs.lemmas.Option.{get_or_from_slice_get}

@@ -139,7 +139,7 @@ fn play_event<A: Allocator + Copy, E: Paper>(
             fault,
             at,
             line,
-            which: delivered(event),
+            datagram: delivered(event),
         }),
     }
 }
@@ -147,7 +147,7 @@ fn play_event<A: Allocator + Copy, E: Paper>(
 // The number of the datagram that is to be delivered.
 fn delivered<A: Allocator>(event: &Event<A>) -> Option<u64> {
     match event {
-        Event::Deliver { which, .. } => Some(*which),
+        Event::Deliver { datagram, .. } => Some(*datagram),
         _ => None,
     }
 }

@@ -1,5 +1,5 @@
 //! The recording of a schedule, from its text to what is written.
-ghost use Rattle.std.specs.Prelude.{◌≡◌, ◌<◌, ◌↔◌, [], List, ℕ, length, IfSome, IsErr, IsOk};
+ghost use Rattle.std.specs.Prelude.{◌≡◌, ◌<◌, ◌↔◌, [], List, length, IfSome, IsErr, IsOk};
 ghost use Rattle.at_diagnostics.specs.Diagnostics.{TellsWrites};
 ghost use Rattle.at_diagnostics.specs.declared.diagnostics.Diagnostics.{Diagnostics as Told};
 ghost use Rattle.at_print.specs.Printers.{HasFailed, IsSettled, Prints};

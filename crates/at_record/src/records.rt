@@ -1,5 +1,4 @@
 //! The records of what a world sent.
-ghost use Rattle.std.specs.Prelude.{◌≡◌};
 ghost use Rattle.at_print.specs.Printers.{Prints};
 ghost use Rattle.at_record.specs.Recordings.{AreSendings, records_text};
 

@@ -1,5 +1,4 @@
 //! Recordings, written to a printer.
-ghost use Rattle.std.specs.Prelude.{◌≡◌};
 ghost use Rattle.at_pcap.specs.Captures.{record_bytes, written_file_header};
 ghost use Rattle.at_print.specs.Printers.{Prints};
 ghost use Rattle.at_recording.specs.Recordings.{front, record_at};

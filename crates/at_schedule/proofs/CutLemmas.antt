@@ -50,7 +50,8 @@ cut_at text i h =
 
 -- a text without a line feed is one line
 one_line : (c : ℕ) (text : List ℕ) → IsFirstByte is_feed (c ∷ text) None → lines_in (c ∷ text) ≡ (c ∷ text) ∷ []
-one_line c [] h = ap (λ b. if b then [] ∷ [] else add_first c []) (not_true (is_feed c) (h 0 (omega arith) (omega arith)))
+one_line c [] h = ap (λ b. if b then [] ∷ [] else add_first c []) (not_true (is_feed c) (h 0 (omega arith)
+    (omega arith)))
 one_line c (d ∷ text) h =
     ap (λ b. if b then [] ∷ lines_in (d ∷ text) else add_first c (lines_in (d ∷ text)))
     (not_true (is_feed c) (h 0 (omega arith) (omega arith)))

@@ -11,11 +11,11 @@ use Rattle.at_schedule.specs.Says.{DeliverSays, ForgeSays, SaysEvent, SaysFound}
 use Rattle.at_words.specs.Hexes.{IsHex}
 
 -- words that say no delivery say no event after this word
-pub no_delivery : {A : Type 0} (ws : List (List ℕ)) → ((which node : ℕ) → ¬ DeliverSays ws which node)
+pub no_delivery : {A : Type 0} (ws : List (List ℕ)) → ((datagram node : ℕ) → ¬ DeliverSays ws datagram node)
     → (found : Option (Event A)) → ¬ SaysFound (codes "deliver") ws found
 no_delivery ws never None said = said
 no_delivery ws never (Some (event.Call node c)) (is, said) = cc is
-no_delivery ws never (Some (event.Deliver which node)) (is, said) = never which node said
+no_delivery ws never (Some (event.Deliver datagram node)) (is, said) = never datagram node said
 no_delivery ws never (Some (event.Timer node t)) (is, said) = cc is
 no_delivery ws never (Some (event.Forge node bytes)) (is, said) = cc is
 
@@ -23,7 +23,7 @@ no_forgery_of : {A : Type 0} (ws : List (List ℕ)) → ((node : ℕ) (bytes : L
     → (found : Option (Event A)) → ¬ SaysFound (codes "forge") ws found
 no_forgery_of ws never None said = said
 no_forgery_of ws never (Some (event.Call node c)) (is, said) = cc is
-no_forgery_of ws never (Some (event.Deliver which node)) (is, said) = cc is
+no_forgery_of ws never (Some (event.Deliver datagram node)) (is, said) = cc is
 no_forgery_of ws never (Some (event.Timer node t)) (is, said) = false≢true (ap (λ w. bytes_eq w (codes "timer")) is)
 no_forgery_of ws never (Some (event.Forge node bytes)) (is, said) = never node bytes said
 

@@ -11,9 +11,7 @@ use Rattle.at_faults.specs.declared.fault.Fault.{Fault}
 use Rattle.at_faults.specs.declared.fault.Fault.TheVariants as fault
 use Rattle.at_faults.specs.declared.fault.LineFault.{LineFault}
 use Rattle.at_faults.specs.declared.fault.LineFault.TheVariants.{NoMemory, Unlawful}
-use Rattle.at_faults.specs.declared.fault.Unreadable.TheVariants.{Changed, Failed, System, TooLong}
 use Rattle.at_faults.specs.declared.rule.Rule.{Rule}
-use Rattle.at_faults.specs.Reads.{IsOfRead}
 use Rattle.at_call_words.specs.Readings.{IfUnlawful}
 use Rattle.at_setup_lines.specs.Drafts.{Draft, IsDraft, IsNoSetup}
 use Rattle.at_setup_lines.specs.SetupLines.{IsSetup}
@@ -83,10 +81,6 @@ abbrev pub Left : Option (List ℕ) → Option (List ℕ) → List (List ℕ) �
 Left None now read = Unit {0}
 Left (Some all) None read = ⊥
 Left (Some all) (Some rest) read = lines_in all ≡ read ++ lines_in rest
-
-pub left_none : (first now : Option (List ℕ)) → now ≡ first → Left first now []
-left_none None now is = tt
-left_none (Some all) now is = rw is refl
 
 pub left_more : (first known new : Option (List ℕ)) (read : List (List ℕ)) (piece : List ℕ) → Left first known read
     → IfSome known (λ xs. (0 < length xs) × (piece ≡ first_piece 10 xs)) → DropsThrough known new 10
@@ -200,15 +194,6 @@ line_refused A first now read line (Unlawful rule) number told numbered left beg
     subst (IsLineFault A first) (sym is) (none_begins A first now read line number r numbered left begins never)
 line_refused A first now read line NoMemory number told numbered left begins never is =
     subst (IsLineFault A first) (sym is) (no_memory A first)
-
--- a read's fault is no line's
-pub of_read : (A : Type 0) (first : Option (List ℕ)) (told : Fault) → IsOfRead told → IsLineFault A first told
-of_read A first (fault.Unreadable TooLong) h = h
-of_read A first (fault.Unreadable Changed) h = h
-of_read A first (fault.Unreadable (System code)) h = tt
-of_read A first (fault.Unreadable Failed) h = tt
-of_read A first (fault.Line number rule) h = absurd h
-of_read A first fault.NoMemory h = no_memory A first
 
 pub told_of : (why : LineFault) (number : ℕ) (told : Fault)
     → ((rule : Rule) → why ≡ Unlawful rule → (r : Rule) × (told ≡ fault.Line number r))

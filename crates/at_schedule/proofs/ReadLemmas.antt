@@ -40,9 +40,6 @@ no_event lines line is = add_no is_event_line lines [] line is ∙ append-nil (f
 
 -- ---- what is read
 
-pub read_none : (A : Type 0) (d : Draft) → IsDraft [] d → has_events d ≡ false → IsRead A [] d
-read_none A d h early = (h, ([], tt), tt, (λ late. absurd (cc (sym early ∙ late))), λ e. refl)
-
 -- a line that is passed over
 pub read_over : (A : Type 0) (lines : List (List ℕ)) (line : List ℕ) (d : Draft) → is_passed_over line ≡ true
     → IsRead A lines d → IsRead A (lines ++ line ∷ []) d

@@ -1,8 +1,8 @@
 -- One line more of a schedule that is read once.
-use Rattle.std.proofs.Common.{◌≡◌, ◌⊎◌, ◌<◌, ℕ, Bool, true, false, cond, List, [], ◌∷◌, ◌++◌, filter, length, map, Some}
-use Rattle.std.proofs.Common.{None, IfSome, IsSome, Ok, Err, Result, IfErr, inl, inr, refl, sym, ap, subst, ◌∙◌}
+use Rattle.std.proofs.Common.{◌≡◌, ◌⊎◌, ℕ, Bool, true, false, cond, List, [], ◌∷◌, ◌++◌, filter, length, Some}
+use Rattle.std.proofs.Common.{None, Ok, Err, Result, inl, inr, refl, sym, ap, subst, ◌∙◌}
 use Rattle.std.proofs.Common.{append-nil, arith}
-use Rattle.std.specs.Prelude.{◌==◌, OnOk, Option}
+use Rattle.std.specs.Prelude.{◌==◌, OnOk}
 use Rattle.std.proofs.lemmas.Bool.Decides.{nat_tests}
 use Rattle.std.specs.List.{All}
 use Rattle.std.proofs.lemmas.List.Elements.{All-nil, All-push, filter-append}
@@ -16,8 +16,7 @@ use Rattle.at_setup_lines.specs.SetupLines.{IsSetup}
 use Rattle.at_schedule.specs.Drafts.{BeginSchedule, IsLineFault, IsRead, IsSchedule, number_after}
 use Rattle.at_schedule.specs.Says.{IsEventHere, Reads, SayAll, Says}
 use Rattle.at_schedule.specs.Schedules.{is_event_line, lines_in, setup_words}
-use Rattle.at_schedule.specs.Wholes.{AreRead, events_of}
-use Rattle.at_schedule.specs.declared.whole.NumberedEvent.{NumberedEvent}
+use Rattle.at_schedule.specs.Wholes.{AreRead}
 use Rattle.at_schedule.proofs.LineLemmas.{none_begins}
 
 say_more : {A : Type 0} (lines : List (List ℕ)) (es : List (Event A)) (line : List ℕ) (e : Event A) → SayAll lines es

@@ -17,7 +17,7 @@ CallSays ws node c = (n : List ℕ) × (rest : List (List ℕ)) × (ws ≡ n ∷
 
 -- the words after `deliver` say a datagram, counted from 0, and a node
 abbrev pub DeliverSays : List (List ℕ) → ℕ → ℕ → Type 0
-DeliverSays ws which node = (k n : List ℕ) × (ws ≡ k ∷ n ∷ []) × IsCount k which × IsNode n node
+DeliverSays ws datagram node = (k n : List ℕ) × (ws ≡ k ∷ n ∷ []) × IsCount k datagram × IsNode n node
 
 -- the words after `timer` say a node and a timer
 abbrev pub TimerSays : List (List ℕ) → ℕ → Timer → Type 0
@@ -30,7 +30,7 @@ ForgeSays ws node bytes = (n hex : List ℕ) × (ws ≡ n ∷ hex ∷ []) × IsN
 -- the first word of an event, and what the words after it say
 abbrev pub SaysEvent : {A : Type 0} → List ℕ → List (List ℕ) → Event A → Type 0
 SaysEvent word ws (event.Call node c) = (word ≡ codes "call") × CallSays ws node c
-SaysEvent word ws (event.Deliver which node) = (word ≡ codes "deliver") × DeliverSays ws which node
+SaysEvent word ws (event.Deliver datagram node) = (word ≡ codes "deliver") × DeliverSays ws datagram node
 SaysEvent word ws (event.Timer node t) = (word ≡ codes "timer") × TimerSays ws node t
 SaysEvent word ws (event.Forge node bytes) = (word ≡ codes "forge") × ForgeSays ws node bytes
 

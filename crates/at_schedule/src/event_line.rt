@@ -5,6 +5,7 @@ ghost use Rattle.at_schedule.specs.Says.{DeliverSays, IsEventHere, SaysFound};
 ghost use Rattle.at_words.specs.Words.{words_of};
 
 use at_call_words::{call_of, data_of, timer_of};
+use at_event::EventRule;
 use at_faults::{LineFault, Rule};
 use at_setup::Event;
 use at_words::{Words, node_number, number};
@@ -19,8 +20,10 @@ pub(crate) fn call_event<A: Allocator + Copy>(
     ensures said { IsFoundInMemory result (SaysFound (codes "call") (words_of words.entry.rest.now)) }
     ensures here { IfOk result (λ found. IfSome found (IsEventHere net)) }
 {
-    let node = words.next().ok_or(LineFault::Unlawful(Rule::Call))?;
-    let node = node_number(node).ok_or(LineFault::Unlawful(Rule::Call))?;
+    let node = words
+        .next()
+        .ok_or(LineFault::Unlawful(Rule::Event(EventRule::Call)))?;
+    let node = node_number(node).ok_or(LineFault::Unlawful(Rule::Event(EventRule::Call)))?;
     match call_of(alloc, net, words) {
         Ok(call) => Ok(Some(Event::Call { node, call })),
         Err(fault) => Err(fault),
@@ -34,7 +37,7 @@ pub(crate) fn delivery_event<A: Allocator>(words: Words<'_>) -> Result<Option<Ev
     ensures memory { result ≢ Err LineFault.NoMemory }
 {
     match delivery(words) {
-        Some((which, node)) => Ok(Some(Event::Deliver { which, node })),
+        Some((datagram, node)) => Ok(Some(Event::Deliver { datagram, node })),
         None => Err(LineFault::Unlawful(Rule::Deliver)),
     }
 }
@@ -43,12 +46,12 @@ pub(crate) fn delivery_event<A: Allocator>(words: Words<'_>) -> Result<Option<Ev
 fn delivery(mut words: Words<'_>) -> Option<(u64, u8)>
     ensures said { IfSome result (λ r. DeliverSays (words_of words.entry.rest.now) r.0 r.1) }
     ensures only { IsNone result
-        → (which node : ℕ) → ¬ DeliverSays (words_of words.entry.rest.now) which node }
+        → (datagram node : ℕ) → ¬ DeliverSays (words_of words.entry.rest.now) datagram node }
 {
-    let which = number(words.next()?)?;
+    let datagram = number(words.next()?)?;
     let node = node_number(words.next()?)?;
     words.end()?;
-    Some((which, node))
+    Some((datagram, node))
 }
 
 /// `N` and a timer.
@@ -60,8 +63,10 @@ pub(crate) fn timer_event<A: Allocator>(
     ensures here { IfOk result (λ found. IfSome found (IsEventHere net)) }
     ensures memory { result ≢ Err LineFault.NoMemory }
 {
-    let node = words.next().ok_or(LineFault::Unlawful(Rule::Timer))?;
-    let node = node_number(node).ok_or(LineFault::Unlawful(Rule::Timer))?;
+    let node = words
+        .next()
+        .ok_or(LineFault::Unlawful(Rule::Event(EventRule::Timer)))?;
+    let node = node_number(node).ok_or(LineFault::Unlawful(Rule::Event(EventRule::Timer)))?;
     match timer_of(net, words) {
         Ok(timer) => Ok(Some(Event::Timer { node, timer })),
         Err(rule) => Err(LineFault::Unlawful(rule)),

@@ -17,7 +17,7 @@ use at_setup::{Event, Setup};
 use at_setup_lines::laws::each_draft_can_end;
 use std::alloc::{Allocator, Global};
 
-/// How many bytes the line of an event has mostly, or more. So the list of events seldom grows, and they are not copied.
+/// How many bytes the line of an event has mostly, or more. So the list of events seldom grows.
 const EVENT_LINE: usize = 12;
 
 /// An event, and the number of the line that says it, counted from 1.

@@ -5,12 +5,12 @@ ghost use Rattle.at_nbp.specs.Names.{same_text as is_same_text};
 ghost use Rattle.at_session.specs.Sessions.{address_at, finds_kept, is_listed, list_kept, list_replaced, new_session};
 ghost use Rattle.at_session.specs.Sessions.{pattern_asked, picking, zone_asked};
 ghost use Rattle.std.specs.List.{list_any};
-ghost use Rattle.at_zip.specs.declared.request.Which.{Which};
+ghost use Rattle.at_zip.specs.declared.request.TableChoice.{TableChoice};
 
 use at_ddp::{Address, Listed, Pascal, same_text};
 use at_event::{NameReport, NodeFault, Report, ZoneReport};
 use at_nbp::{Find, Name, copy_of};
-use at_zip::Which;
+use at_zip::TableChoice;
 use std::alloc::{Allocator, Global};
 use std::marker::Model;
 use std::mem;
@@ -103,7 +103,8 @@ impl<A: Allocator + Copy> Session<A> {
         report: &Report<A>,
         list: Option<Listed<Pascal, A>>,
     ) -> Option<Listed<Pascal, A>>
-        requires { (which : Which) (names : List (List ℕ)) → report.now ≡ Report.Zones (ZoneReport.List which names)
+        requires { (which : TableChoice) (names : List (List ℕ))
+            → report.now ≡ Report.Zones (ZoneReport.List which names)
             → list ≡ Some names }
         ensures keeps { self.new ≡ list_kept self.old report.now }
         ensures gives { result ≡ list_replaced self.old report.now }
@@ -112,8 +113,8 @@ impl<A: Allocator + Copy> Session<A> {
             return None;
         };
         match which {
-            Which::All => Some(mem::replace(&mut self.all, list)),
-            Which::Local => Some(mem::replace(&mut self.local, list)),
+            TableChoice::All => Some(mem::replace(&mut self.all, list)),
+            TableChoice::Local => Some(mem::replace(&mut self.local, list)),
         }
     }
 

@@ -9,7 +9,7 @@ pub enum Event<A: Allocator = Global> {
     /// A node's user makes a call.
     Call { node: u8, call: Call<A> },
     /// The datagram of this number comes to a node, for the first time or again.
-    Deliver { which: u64, node: u8 },
+    Deliver { datagram: u64, node: u8 },
     /// A timer of a node fires.
     Timer { node: u8, timer: Timer },
     /// Bytes that no node sent come to a node.

@@ -6,5 +6,5 @@ mod refusal;
 mod setup;
 
 pub use event::Event;
-pub use refusal::{Fault, Refusal};
+pub use refusal::{EventFault, Refusal};
 pub use setup::{NodeSetup, Setup};

@@ -40,7 +40,7 @@ impl Refusal {
 
 /// Why a play stops before its end.
 #[derive(Clone, Copy, Debug, PartialEq, Eq, Error)]
-pub enum Fault {
+pub enum EventFault {
     /// The event was refused.
     #[error(transparent)]
     Refused(Refusal),

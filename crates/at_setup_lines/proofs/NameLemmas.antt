@@ -1,7 +1,6 @@
 -- A word spells one name, whose bytes are bytes.
-use Rattle.std.proofs.Common.{arith, length, ◌≡◌, ◌<◌, ℕ, List, [], ◌∷◌, ◌++◌, inl, inr, refl, sym, ap}
+use Rattle.std.proofs.Common.{arith, length, ◌≡◌, ℕ, List, [], ◌∷◌, ◌++◌, inl, inr, refl, sym, ap}
 use Rattle.std.proofs.Common.{subst, ◌∙◌}
-use Rattle.std.specs.Prelude.{codes}
 use Rattle.at_words.proofs.Digits.{same_byte, two_digits}
 use Rattle.hex.specs.Hex.{decode_of}
 use Rattle.at_words.specs.Texts.{AreGlyphs, IsZoneName, SpellsFirst}
@@ -49,21 +48,6 @@ same_text word (x ∷ a) (y ∷ b) (rest, first, are) (left, second, more) =
     let same = same_first word rest left x y first second in
     let tail = same_text left a b (subst (λ l. AreGlyphs l a) same.1 are) more in
     λ i. same.0 i ∷ tail i
-
--- a percent sign alone spells no byte
-not_alone : (a : List ℕ) → 0 < length a → ¬ AreGlyphs (codes "%") a
-not_alone [] some h = omega (arith, some)
-not_alone (x ∷ a) some (rest, (p, is, inl (one, seen, apart)), are) =
-    let both : codes "%" ≡ x ∷ rest = is ∙ ap (λ l. l ++ rest) one in
-    apart cc
-not_alone (x ∷ a) some (rest, (p, is, inr (digits, one, decoded)), are) =
-    let both : codes "%" ≡ 37 ∷ (digits ++ rest) = is ∙ ap (λ l. l ++ rest) one in
-    let tail : [] ≡ digits ++ rest = cc in
-    no_front digits rest (two_digits digits x decoded) tail
-  where
-    no_front : (digits rest : List ℕ) → length digits ≡ 2 → [] ≡ digits ++ rest → ⊥
-    no_front [] rest two same = omega (arith, two)
-    no_front (d ∷ digits) rest two same = cc same
 
 pub glyphs_of : (word name : List ℕ) → IsZoneName word name → AreGlyphs word name
 glyphs_of word name ((inl (percent, none), few), some) = let over : length name

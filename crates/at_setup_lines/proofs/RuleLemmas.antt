@@ -61,9 +61,6 @@ module _ (ns : List NodeSetup) (n : NodeSetup) where
   none_with h z = list_all-append (λ m. is_none m.zone) ns (n ∷ [])
       ∙ and_from (none_zoned ns) (is_none n.zone && true) h (and_from (is_none n.zone) true z refl)
 
-  pub test_few : Fit (ns ++ n ∷ []) → length ns < 16
-  test_few f = let few = f.few in omega (arith, length-append ns (n ∷ []), few)
-
   pub test_number : Fit (ns ++ n ∷ []) → list_any (has_number n.node) ns ≡ false
   test_number f = go (list_any (has_number n.node) ns) refl
     where
@@ -241,9 +238,6 @@ fit_with ns n f node few differs zones router =
 
 fit_of : (ns : List NodeSetup) → BeginNodes ns → Fit ns
 fit_of ns (more, h) = fit_from ns more h
-
-pub few_if : (ns : List NodeSetup) (n : NodeSetup) → BeginNodes (ns ++ n ∷ []) → length ns < 16
-few_if ns n b = test_few ns n (fit_of (ns ++ n ∷ []) b)
 
 pub number_if : (ns : List NodeSetup) (n : NodeSetup) → BeginNodes (ns ++ n ∷ []) → list_any (has_number n.node) ns
     ≡ false

@@ -1,5 +1,5 @@
 //! The lines of the network and of its nodes, after their first word.
-ghost use Rattle.std.specs.Prelude.{◌≡◌, ◌∷◌, codes};
+ghost use Rattle.std.specs.Prelude.{◌∷◌, codes};
 ghost use Rattle.at_words.specs.Readings.{IsFound};
 ghost use Rattle.at_words.specs.Words.{words_of};
 ghost use Rattle.at_setup_lines.specs.SetupLines.{SaysNet, SaysNode, SaysPlace, SaysRooms};

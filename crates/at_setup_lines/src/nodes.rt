@@ -1,5 +1,5 @@
 //! Which nodes may be in one setup.
-ghost use Rattle.std.specs.Prelude.{◌≡◌, ◌&&◌, not, ◌++◌, ◌∷◌, [], true, is_none, IsNone, IsSome};
+ghost use Rattle.std.specs.Prelude.{◌≡◌, ◌&&◌, ◌++◌, ◌∷◌, [], true, is_none, IsNone, IsSome};
 ghost use Rattle.std.specs.List.{list_any};
 ghost use Rattle.at_setup.specs.Setups.{has_router};
 ghost use Rattle.at_setup_lines.specs.NodeLists.{BeginNodes, fits_zones, has_number, have_zones, is_node};

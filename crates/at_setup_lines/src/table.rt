@@ -1,5 +1,5 @@
 //! The names of a zone table.
-ghost use Rattle.std.specs.Prelude.{◌≡◌, ◌≢◌, ◌≤◌, List, ℕ, length, IfOk, IfErr};
+ghost use Rattle.std.specs.Prelude.{◌≢◌, ◌≤◌, List, ℕ, length, IfOk, IfErr};
 ghost use Rattle.std.specs.List.{AllZip};
 ghost use Rattle.at_words.specs.Texts.{IsZoneName};
 ghost use Rattle.at_words.specs.Words.{words_of};

@@ -7,13 +7,13 @@ use Rattle.at_diagnostics.specs.Diagnostics.{TellsReason}
 use Rattle.at_diagnostics.specs.Lines.{reason_told}
 use Rattle.at_diagnostics.specs.declared.diagnostics.Diagnostics.{Diagnostics}
 use Rattle.at_print.specs.Papers.{Page}
+use Rattle.at_print.specs.Refusals.{refusal_line}
+use Rattle.at_print.specs.Reports.{IsReadable}
 use Rattle.at_print.specs.declared.status.Status.{Status}
 use Rattle.at_print.specs.declared.status.Status.TheVariants.{Done, Failed}
 use Rattle.at_show.specs.HexFaults.{fault_line}
-use Rattle.at_show.specs.Data.{IsReadable}
 use Rattle.at_show.specs.Shown.{IsSound, Shows}
 use Rattle.at_show.specs.Texts.{WordText, NoHex, NoRoom}
-use Rattle.at_show.specs.Refusals.{refusal_line}
 use Rattle.at_show.specs.Told.{TellsRefusal, TellsWhy}
 use Rattle.at_words.specs.Hexes.{IsHex}
 use Rattle.at_words.specs.declared.hex_word.HexFault.{HexFault}

@@ -1,7 +1,7 @@
 -- Which words in hexadecimal digits are shown without a refusal.
 use Rattle.std.specs.Prelude.{ℕ, List}
 use Rattle.at_ddp.specs.Datagram.{Content as Datagram, BeginsWith}
-use Rattle.at_show.specs.Data.{IsReadable}
+use Rattle.at_print.specs.Reports.{IsReadable}
 use Rattle.at_words.specs.Hexes.{IsHex}
 
 -- the bytes begin with a datagram whose data can be read

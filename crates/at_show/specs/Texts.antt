@@ -4,9 +4,8 @@ use Rattle.at_ddp.specs.Datagram.{Content, BeginsWith}
 use Rattle.at_ddp.specs.Fault as ddp
 use Rattle.at_ddp.specs.declared.fault.DdpFault.{DdpFault}
 use Rattle.at_print.specs.Lines.{header_line}
-use Rattle.at_diagnostics.specs.Stops.{no_memory_line}
-use Rattle.at_show.specs.Data.{DataText}
-use Rattle.at_show.specs.Refusals.{refusal_line}
+use Rattle.at_print.specs.Refusals.{no_memory_line, refusal_line}
+use Rattle.at_print.specs.Reports.{DataText}
 use Rattle.at_words.specs.Hexes.{IsHex}
 
 -- what is printed of bytes: the header and the data of the datagram with which they begin, or the first fault by its

@@ -4,9 +4,9 @@ use Rattle.at_diagnostics.specs.Diagnostics.{TellsReason}
 use Rattle.at_diagnostics.specs.Lines.{reason_told}
 use Rattle.at_diagnostics.specs.declared.diagnostics.Diagnostics.{Diagnostics}
 use Rattle.at_print.specs.Papers.{Page}
+use Rattle.at_print.specs.Refusals.{refusal_line}
 use Rattle.at_print.specs.declared.status.Status.{Status}
 use Rattle.at_print.specs.declared.status.Status.TheVariants.{Done, Failed}
-use Rattle.at_show.specs.Refusals.{refusal_line}
 
 -- the line of a refusal by this number, or of a word that spells no bytes, which has no number
 abbrev pub IsRefusalLine : List ℕ → Option ℕ → Type 0

@@ -2,10 +2,10 @@
 use Rattle.std.specs.Prelude.{◌≡◌, ◌≢◌, ◌↔◌, ◌⊎◌, ℕ, ◌/◌, List, None, codes, length}
 use Rattle.at_diagnostics.specs.Diagnostics.{TellsLine, TellsReason}
 use Rattle.at_diagnostics.specs.Lines.{note_told, reason_told}
-use Rattle.at_diagnostics.specs.Stops.{no_memory_line}
 use Rattle.at_diagnostics.specs.declared.diagnostics.Diagnostics.{Diagnostics}
 use Rattle.at_print.specs.Papers.{Page}
 use Rattle.at_print.specs.Printers.{HasFailed, Prints}
+use Rattle.at_print.specs.Refusals.{no_memory_line}
 use Rattle.at_print.specs.declared.printer.Printer.{Printer}
 use Rattle.at_print.specs.declared.status.Status.{Status}
 use Rattle.at_print.specs.declared.status.Status.TheVariants.{Done, Failed}

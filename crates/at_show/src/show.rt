@@ -5,18 +5,17 @@ ghost use Rattle.at_ddp.specs.Datagram.{content};
 ghost use Rattle.at_diagnostics.specs.Diagnostics.{TellsReason};
 ghost use Rattle.at_diagnostics.specs.Lines.{reason_told};
 ghost use Rattle.at_show.specs.HexFaults.{fault_line};
-ghost use Rattle.at_show.specs.Data.{DataText, IsReadable};
-ghost use Rattle.at_show.specs.Refusals.{refusal_line};
+ghost use Rattle.at_print.specs.Refusals.{refusal_line};
+ghost use Rattle.at_print.specs.Reports.{DataText, IsReadable};
 ghost use Rattle.at_show.specs.Texts.{BytesText, WordText};
 ghost use Rattle.at_print.specs.Lines.{header_line};
 ghost use Rattle.at_show.specs.Shown.{IsSound, Shows};
 ghost use Rattle.at_show.specs.Told.{TellsRefusal, TellsWhy};
 
-use crate::data::show_data;
 use crate::hex_reason::HexReason;
 use at_ddp::Datagram;
 use at_diagnostics::Diagnostics;
-use at_print::{Paper, Part, Printer, Status, write_header};
+use at_print::{Paper, Part, Printer, Status, write_data, write_header};
 use at_words::{HexFault, bytes_of};
 use std::alloc::Allocator;
 use std::fmt::Display;
@@ -124,6 +123,25 @@ fn show_datagram<W: Paper, E: Paper>(
 {
     write_header(printer, datagram, rest);
     show_data(datagram.kind, datagram.data_, printer, diagnostics)
+}
+
+/// Shows the data of a datagram of this type: the lines of its packet, or the bytes. The status is `Failed` if the
+/// packet is refused.
+pub fn show_data<W: Paper, E: Paper>(
+    kind: u8,
+    bytes: &[u8],
+    printer: &mut Printer<W>,
+    diagnostics: &mut Diagnostics<'_, E>,
+) -> Status
+    ensures done { (result ≡ Status.Done) ↔ IsReadable kind bytes.now }
+    ensures printed { (text : List ℕ) × DataText kind bytes.now text
+        × Prints W.page printer.old printer.new text }
+    ensures told { TellsWhy E.page (DataText kind bytes.now) result diagnostics.old diagnostics.new }
+{
+    match write_data(printer, kind, bytes) {
+        Ok(()) => Status::Done,
+        Err(reason) => show_refusal(reason, reason.number(), printer, diagnostics),
+    }
 }
 
 /// Prints the number of a refusal, in the place of the line of what was refused, and tells why.

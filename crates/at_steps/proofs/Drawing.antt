@@ -1,6 +1,6 @@
 -- A number that a report tells of is of the protocol whose report it is, a row for each report that does.
 use Rattle.std.proofs.Common.{◌≡◌, Some, ap}
-use Rattle.at_event.specs.Kinds.{Kind, Adsp, Atp, Nbp, reporter_of}
+use Rattle.at_event.specs.Kinds.{Speaker, Adsp, Atp, Nbp, reporter_of}
 use Rattle.at_event.specs.declared.Report.{Report}
 use Rattle.at_event.specs.declared.Report.TheVariants as report
 use Rattle.at_event.specs.declared.transactions.TransactionReport.TheVariants as atp_report
@@ -11,7 +11,7 @@ use Rattle.at_node.specs.declared.numbers.Draw.{Draw}
 use Rattle.at_node.specs.declared.numbers.Draw.TheVariants.{Tid, Lookup, Conn}
 
 -- whose number it is
-abbrev pub kind_of_draw : Draw → Kind
+abbrev pub kind_of_draw : Draw → Speaker
 kind_of_draw (Tid tid) = Atp
 kind_of_draw (Lookup id) = Nbp
 kind_of_draw (Conn id) = Adsp

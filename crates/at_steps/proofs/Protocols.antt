@@ -6,7 +6,7 @@ use Rattle.at_ddp.specs.Datagram.{Content as Datagram, BeginsWith, canonical}
 use Rattle.at_ddp.specs.declared.address.Address.{Address}
 use Rattle.at_ddp.specs.Protocols.{atp_kind, nbp_kind, adsp_kind}
 use Rattle.at_event.specs.Kinds as kinds
-use Rattle.at_event.specs.Kinds.{Kind, Nobody, Session, kind_of_call, kind_of_timer, reporter_of}
+use Rattle.at_event.specs.Kinds.{Speaker, Nobody, Session, speaker_of_call, speaker_of_timer, reporter_of}
 use Rattle.at_event.specs.Outcomes.{Outcome, idle, over}
 use Rattle.at_event.specs.Seats.{is_for_all, is_mine}
 use Rattle.at_event.specs.declared.Call.{Call}
@@ -25,7 +25,7 @@ use Rattle.at_node.specs.Nodes.{HearsBy, HearsMine, NodeState, called, speaker_o
 use Rattle.at_node.specs.SessionCalls.{picked_as}
 use Rattle.at_session.specs.Sessions.{SessionState, is_listed, list_kept}
 use Rattle.at_steps.specs.Acts.{Act, Calls, Fires, Gets, IsSaid}
-use Rattle.at_steps.specs.Safety.{IsPlaceOfCall, IsSafe, Place, Records}
+use Rattle.at_steps.specs.Safety.{IsTableOfCall, IsSafe, TransactionTable, Records}
 use Rattle.at_steps.specs.SessionSteps.{MayPick}
 use Rattle.at_steps.proofs.Coming.{ComesBy, IsOf, may_pick}
 use Rattle.at_steps.proofs.Safety.By.{by, quiet, refused, through}
@@ -44,37 +44,37 @@ pub mod Names
 pub mod Streams
 
 -- the node with the part of another state for a protocol; nobody has one, and the session is kept apart
-abbrev pub take_part : Kind → NodeState → NodeState → NodeState
+abbrev pub take_part : Speaker → NodeState → NodeState → NodeState
 take_part kinds.Atp = take_atp
 take_part kinds.Nbp = take_names
 take_part kinds.Adsp = take_streams
 take_part other = λ n now. n
 
 -- no protocol has type 0
-abbrev pub type_of : Kind → ℕ
+abbrev pub type_of : Speaker → ℕ
 type_of kinds.Atp = atp_kind
 type_of kinds.Nbp = nbp_kind
 type_of kinds.Adsp = adsp_kind
 type_of other = 0
 
 -- what comes of an event comes of this protocol, or of the session or of nobody
-pub record Comes (A : Type 0) (n : NodeState) (act : Act A) (o : Outcome A NodeState) (whose : Kind) : Type 0 where
+pub record Comes (A : Type 0) (n : NodeState) (act : Act A) (o : Outcome A NodeState) (whose : Speaker) : Type 0 where
   pub by : ComesBy A (take_part whose) (type_of whose) whose n act o
   pub picks : MayPick n.session act o.report (reporter_of o.report)
 
 -- a datagram of this type is this protocol's; any may be nobody's
-abbrev pub IsTyped : Kind → ℕ → Type 0
+abbrev pub IsTyped : Speaker → ℕ → Type 0
 IsTyped Nobody kind = Unit {0}
 IsTyped whose kind = speaker_of kind ≡ whose
 
 pub record ComesByType (A : Type 0) (n : NodeState) (which : ℕ) (o : Outcome A NodeState) (kind : ℕ) : Type 0 where
-  pub whose : Kind
+  pub whose : Speaker
   pub typed : IsTyped whose kind
   pub comes : Comes A n (Gets which) o whose
 
 module _ (A : Type 0) (n : NodeState) where
   -- what a protocol reports is not the session's
-  of_protocol : (act : Act A) (o : Outcome A NodeState) (whose : Kind) → MayPick n.session act o.report whose
+  of_protocol : (act : Act A) (o : Outcome A NodeState) (whose : Speaker) → MayPick n.session act o.report whose
       → ComesBy A (take_part whose) (type_of whose) whose n act o → Comes A n act o whose
   of_protocol act o whose picks by = record {
     by = by;
@@ -89,7 +89,7 @@ module _ (A : Type 0) (n : NodeState) where
   picking zone true listed = record { by = record { state = refl; its = (tt, (refl, tt)) }; picks = listed }
   picking zone false listed = record { by = record { state = refl; its = (tt, (tt, tt)) }; picks = tt }
 
-  pub call_comes : (call : Call A) → Comes A n (Calls call) (called n call) (kind_of_call call)
+  pub call_comes : (call : Call A) → Comes A n (Calls call) (called n call) (speaker_of_call call)
   call_comes (protocol.Transactions call) =
       of_protocol (Calls (protocol.Transactions call)) (called n (protocol.Transactions call)) kinds.Atp tt
       (transactions_called A n call)
@@ -103,7 +103,7 @@ module _ (A : Type 0) (n : NodeState) where
       (streams_called A n call)
   call_comes (protocol.Session (Pick zone)) = picking zone (is_listed n.session zone) refl
 
-  pub timer_comes : (time : Timer) → Comes A n (Fires time) (timed n time) (kind_of_timer time)
+  pub timer_comes : (time : Timer) → Comes A n (Fires time) (timed n time) (speaker_of_timer time)
   timer_comes (timer.Transactions time) =
       of_protocol (Fires (timer.Transactions time)) (timed n (timer.Transactions time)) kinds.Atp tt
       (transactions_timed A n time)
@@ -115,7 +115,7 @@ module _ (A : Type 0) (n : NodeState) where
 -- ---- datagrams
 
 module _ (A : Type 0) (n : NodeState) (which : ℕ) (said : Reply A) (o : Outcome A NodeState) where
-  of_type : (kind : ℕ) (whose : Kind) → IsTyped whose kind → MayPick n.session (Gets which) o.report whose
+  of_type : (kind : ℕ) (whose : Speaker) → IsTyped whose kind → MayPick n.session (Gets which) o.report whose
       → ComesBy A (take_part whose) (type_of whose) whose n (Gets which) o → ComesByType A n which o kind
   of_type kind whose typed picks by =
       record { whose = whose; typed = typed; comes = of_protocol A n (Gets which) o whose picks by }
@@ -126,7 +126,7 @@ module _ (A : Type 0) (n : NodeState) (which : ℕ) (said : Reply A) (o : Outcom
       (subst (ComesBy A (take_part Nobody) (type_of Nobody) Nobody n (Gets which)) (sym is)
       (record { state = ap (λ (s : SessionState). record n { session = s }) keeps; its = (tt, (its, may)) }))
 
-  mine_comes : (d : Datagram) (whose : Kind) → speaker_of d.kind ≡ whose → HearsBy said n d o whose
+  mine_comes : (d : Datagram) (whose : Speaker) → speaker_of d.kind ≡ whose → HearsBy said n d o whose
       → ComesByType A n which o d.kind
   mine_comes d kinds.Atp is h = of_type d.kind kinds.Atp is tt (atp_heard A n which said d o h)
   mine_comes d kinds.Nbp is h = of_type d.kind kinds.Nbp is tt (names_heard A n which d o h)
@@ -165,30 +165,30 @@ pub record SafetyLaws : Type 0 where
 
 module _ (A : Type 0) (laws : SafetyLaws) (n : NodeState) (within : IsWithin n) where
   picking_safe : (zone : List ℕ) (listed : Bool)
-      → IsSafe {A = A} IsPlaceOfCall n n.session (picked_as n.session zone listed)
-  picking_safe zone true = quiet A IsPlaceOfCall n n.session (picked_as n.session zone true) refl (omega arith)
-  picking_safe zone false = refused A IsPlaceOfCall n n.session (OfNodes nodes.ZoneNotListed) tt
+      → IsSafe {A = A} IsTableOfCall n n.session (picked_as n.session zone listed)
+  picking_safe zone true = quiet A IsTableOfCall n n.session (picked_as n.session zone true) refl (omega arith)
+  picking_safe zone false = refused A IsTableOfCall n n.session (OfNodes nodes.ZoneNotListed) tt
 
-  pub call_safe : (call : Call A) → IsSafe IsPlaceOfCall n n (called n call)
+  pub call_safe : (call : Call A) → IsSafe IsTableOfCall n n (called n call)
   call_safe (protocol.Transactions call) = transactions_safe A n laws.numbers laws.records call
   call_safe (protocol.Zones call) = zone_lists_safe A n laws.numbers call
-  call_safe (protocol.Names call) = name_call_safe A n IsPlaceOfCall laws.names within call
-  call_safe (protocol.Streams call) = stream_call_safe A n IsPlaceOfCall laws.streams within call
+  call_safe (protocol.Names call) = name_call_safe A n IsTableOfCall laws.names within call
+  call_safe (protocol.Streams call) = stream_call_safe A n IsTableOfCall laws.streams within call
   call_safe (protocol.Session (Pick zone)) =
-      through A IsPlaceOfCall n (with_session n) n.session (picked_as n.session zone (is_listed n.session zone)) refl
+      through A IsTableOfCall n (with_session n) n.session (picked_as n.session zone (is_listed n.session zone)) refl
       (picking_safe zone (is_listed n.session zone))
 
-  pub timer_safe : (time : Timer) → IsSafe {A = A} IsPlaceOfCall n n (timed n time)
+  pub timer_safe : (time : Timer) → IsSafe {A = A} IsTableOfCall n n (timed n time)
   timer_safe (timer.Transactions time) = transaction_timer_safe A n time
-  timer_safe (timer.Names time) = name_timer_safe A n IsPlaceOfCall laws.names within time
-  timer_safe (timer.Streams time) = stream_timer_safe A n IsPlaceOfCall laws.streams within time
+  timer_safe (timer.Names time) = name_timer_safe A n IsTableOfCall laws.names within time
+  timer_safe (timer.Streams time) = stream_timer_safe A n IsTableOfCall laws.streams within time
 
-  module _ (Wants : Place → Type 0) (said : Reply A) (d : Datagram) (o : Outcome A NodeState) where
+  module _ (Wants : TransactionTable → Type 0) (said : Reply A) (d : Datagram) (o : Outcome A NodeState) where
     pub ignored_safe : o ≡ idle n report.Ignored → IsSafe Wants n n o
     ignored_safe is =
         by A Wants n n o (idle n report.Ignored) is (quiet A Wants n n (idle n report.Ignored) refl (omega arith))
 
-    heard_safe : Wants (Records d.to.socket) → (whose : Kind) → HearsBy said n d o whose → IsSafe Wants n n o
+    heard_safe : Wants (Records d.to.socket) → (whose : Speaker) → HearsBy said n d o whose → IsSafe Wants n n o
     heard_safe here kinds.Atp h = atp_over A n Wants laws.records said d o here h
     heard_safe here kinds.Nbp h = names_over A n Wants laws.names within d o h
     heard_safe here kinds.Adsp h = streams_over A n Wants laws.streams within d o h

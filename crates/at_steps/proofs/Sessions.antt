@@ -1,6 +1,6 @@
 -- Each event of a node is a step of its user's session.
 use Rattle.std.proofs.Common.{ℕ, List, ap}
-use Rattle.at_event.specs.Kinds.{Kind, kind_of_call, kind_of_timer}
+use Rattle.at_event.specs.Kinds.{Speaker, speaker_of_call, speaker_of_timer}
 use Rattle.at_event.specs.Outcomes.{Outcome}
 use Rattle.at_event.specs.declared.Call.{Call}
 use Rattle.at_event.specs.declared.Timer.{Timer}
@@ -15,15 +15,15 @@ module _ (A : Type 0) (n : NodeState) where
   abbrev Steps : Act A → Outcome A NodeState → Type 0
   Steps act o = IsStep n.session act o.report o.state.session
 
-  comes_steps : (act : Act A) (o : Outcome A NodeState) (k : Kind) → Comes A n act o k → Steps act o
+  comes_steps : (act : Act A) (o : Outcome A NodeState) (k : Speaker) → Comes A n act o k → Steps act o
   comes_steps act o k h = let by = h.by in
       record { becomes = ap (λ (x : NodeState). x.session) by.state; picks = h.picks }
 
   pub call_steps : (call : Call A) → Steps (Calls call) (called n call)
-  call_steps call = comes_steps (Calls call) (called n call) (kind_of_call call) (call_comes A n call)
+  call_steps call = comes_steps (Calls call) (called n call) (speaker_of_call call) (call_comes A n call)
 
   pub timer_steps : (time : Timer) → Steps (Fires time) (timed n time)
-  timer_steps time = comes_steps (Fires time) (timed n time) (kind_of_timer time) (timer_comes A n time)
+  timer_steps time = comes_steps (Fires time) (timed n time) (speaker_of_timer time) (timer_comes A n time)
 
   pub datagram_steps : (which : ℕ) (said : Reply A) (o : Outcome A NodeState) (bytes : List ℕ) → Hears said n bytes o
       → Steps (Gets which) o

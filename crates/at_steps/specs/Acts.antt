@@ -1,6 +1,6 @@
 -- What happens at a node, and which reports there are.
 use Rattle.std.specs.Prelude.{ℕ}
-use Rattle.at_event.specs.Kinds.{Kind, Nobody, reporter_of}
+use Rattle.at_event.specs.Kinds.{Speaker, Nobody, reporter_of}
 use Rattle.at_event.specs.declared.Call.{Call}
 use Rattle.at_event.specs.declared.Report.{Report}
 use Rattle.at_event.specs.declared.Report.TheVariants as report
@@ -10,10 +10,10 @@ use Rattle.at_event.specs.declared.Timer.{Timer}
 pub data Act (A : Type 0) : Type 0 where
   Calls : Call A → Act A
   Fires : Timer → Act A
-  Gets : (which : ℕ) → Act A
+  Gets : (datagram : ℕ) → Act A
   Forges : Act A
 
-abbrev pub IsSomebodys : Kind → Type 0
+abbrev pub IsSomebodys : Speaker → Type 0
 IsSomebodys Nobody = ⊥
 IsSomebodys other = Unit {0}
 
@@ -21,7 +21,7 @@ IsSomebodys other = Unit {0}
 abbrev pub IsSaid : {A : Type 0} → Act A → Report A → Type 0
 IsSaid act (report.Refused number) = Unit {0}
 IsSaid act report.NoMemory = Unit {0}
-IsSaid (Gets which) report.Ignored = Unit {0}
-IsSaid (Gets which) report.Again = Unit {0}
+IsSaid (Gets datagram) report.Ignored = Unit {0}
+IsSaid (Gets datagram) report.Again = Unit {0}
 IsSaid (Fires time) report.Again = Unit {0}
 IsSaid act r = IsSomebodys (reporter_of r)

@@ -1,6 +1,6 @@
 -- Which happening of the network of requesters and responders a step of a node is (Inside AppleTalk, ATP,
 -- "Transactions").
-use Rattle.std.specs.Prelude.{◌≡◌, ℕ, ◌^◌, ◌<◌, ◌==◌, ◌++◌, Bool, true, false, List, [], ◌∷◌, find, Option, Some, None}
+use Rattle.std.specs.Prelude.{◌≡◌, ℕ, ◌^◌, ◌<◌, ◌++◌, Bool, true, false, List, [], ◌∷◌, find, Option, Some, None}
 use Rattle.std.specs.List.{AllByRecursion}
 use Rattle.at_ddp.specs.declared.address.Address.{Address}
 use Rattle.at_atp_frame.specs.Frames.{spelled, Content}
@@ -18,19 +18,20 @@ use Rattle.at_zone_socket.specs.ZoneSockets.{Reading, zones_at}
 use Rattle.at_transaction_socket.specs.TransactionSockets.{asking, serving}
 use Rattle.at_node.specs.Numbers.{drawn_by}
 use Rattle.at_node.specs.Nodes.{NodeState}
-use Rattle.at_event.specs.Kinds.{Kind, Atp, reporter_of}
+use Rattle.at_event.specs.Kinds.{Speaker, Atp}
 use Rattle.at_event.specs.Outcomes.{Outcome, Outgoing}
 use Rattle.at_node.specs.declared.numbers.Draw.{Draw}
 use Rattle.at_node.specs.declared.numbers.Draw.TheVariants.{Tid}
 use Rattle.at_event.specs.declared.Report.{Report}
 use Rattle.at_event.specs.declared.Report.TheVariants as report
 use Rattle.at_event.specs.declared.zones.ZoneReport.TheVariants as zip_report
-use Rattle.at_steps.specs.Acts.{Act, IsSaid}
+use Rattle.at_steps.specs.Acts.{Act}
 use Rattle.at_steps.specs.AtpReports.{Matches}
 use Rattle.at_steps.specs.AtpSteps.{Change, IsStep}
+use Rattle.at_steps.specs.Foreign.{IsAnothers}
 
 -- is it ATP's, of which ZIP is a user?
-abbrev pub is_atp : Kind → Bool
+abbrev pub is_atp : Speaker → Bool
 is_atp Atp = true
 is_atp other = false
 
@@ -139,9 +140,6 @@ abbrev pub Passes : (A : Type 0) → List Happening → ℕ → ℕ → NodeStat
 Passes A history net number n act o = (h : Happens A history net number n act o)
     × ((done A (after A history) h.happening).asked ≡ (after A history).asked)
 
--- The step leaves this part as it was, and sends no packet of it. Its report is one that there is, but not this part's.
-pub record IsForeign {A : Type 0} (n : NodeState) (act : Act A) (o : Outcome A NodeState) : Type 0 where
-  pub same : o.state.atp ≡ n.atp
-  pub sends : AllByRecursion (λ p. (p.kind == atp_kind) ≡ false) o.out
-  pub reports : is_atp (reporter_of o.report) ≡ false
-  pub said : IsSaid act o.report
+-- the step is another protocol's
+abbrev pub IsForeign : {A : Type 0} → NodeState → Act A → Outcome A NodeState → Type 0
+IsForeign n act o = IsAnothers is_atp atp_kind (λ (m : NodeState). m.atp) n act o

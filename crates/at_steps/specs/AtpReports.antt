@@ -6,7 +6,7 @@ use Rattle.at_ddp.specs.declared.address.Address.{Address}
 use Rattle.at_atp_frame.specs.Frames.{Content, Request, number_of}
 use Rattle.at_atp_frame.specs.Packets.{Packet}
 use Rattle.at_atp_requester.specs.Requests.{heard}
-use Rattle.at_atp_requester.specs.declared.step.Step.TheVariants as step
+use Rattle.at_atp_requester.specs.declared.progress.RequestProgress.TheVariants as step
 use Rattle.at_atp_responder.specs.Once.{same_key}
 use Rattle.at_atp_responder.specs.declared.reception.Key.{Key}
 use Rattle.at_atp.specs.HandUps.{draws, is_handed_up, expires_there}
@@ -16,7 +16,7 @@ use Rattle.at_atp.specs.Network.{done}
 use Rattle.at_atp.specs.Transactions.{answered}
 use Rattle.at_zip.specs.Request.{RequestSpells}
 use Rattle.at_zip.specs.Tables.{Tables, table_of}
-use Rattle.at_zip.specs.declared.request.Which.{Which}
+use Rattle.at_zip.specs.declared.request.TableChoice.{TableChoice}
 use Rattle.at_transaction_socket.specs.TransactionSockets.{asking}
 use Rattle.at_event.specs.declared.Call.TheVariants.{Transactions, Zones}
 use Rattle.at_event.specs.declared.transactions.TransactionCall.TheVariants.{Ask, Answer}
@@ -53,8 +53,9 @@ came_under (Some s) key = same_key (record { from = s.from; tid = number_of s.pa
 
 -- the request of this key was delivered, to the node's service or to the router
 abbrev pub handed_up_by : {A : Type 0} → List (Option Sent) → Act A → Report A → Key → Bool
-handed_up_by sent (Gets which) (report.Transactions (atp_report.Asked k user bytes)) key = same_key k key
-handed_up_by sent (Gets which) (report.Zones (zip_report.Served count)) key = came_under (packet_at sent which) key
+handed_up_by sent (Gets datagram) (report.Transactions (atp_report.Asked k user bytes)) key = same_key k key
+handed_up_by sent (Gets datagram) (report.Zones (zip_report.Served count)) key = came_under
+    (packet_at sent datagram) key
 handed_up_by sent act r key = false
 
 -- is this an exactly-once request?
@@ -66,36 +67,36 @@ asks_once act = false
 abbrev pub asks_for : {A : Type 0} → Act A → ℕ
 asks_for (Calls (Transactions (Ask k socket user bytes wanted xo retries))) = wanted
 asks_for (Calls (Zones (zone.Read which))) = 1
-asks_for (Gets which) = 1
+asks_for (Gets datagram) = 1
 asks_for act = 0
 
 -- ---- the happening that they tell of
 
 -- the happening takes the datagram that comes
 abbrev pub TakesIn : {A : Type 0} → Happening → Act A → Type 0
-TakesIn (Takes which) act = act ≡ Gets which
-TakesIn (Serves which packets) act = act ≡ Gets which
-TakesIn (Turns which user retries) act = act ≡ Gets which
+TakesIn (Takes datagram) act = act ≡ Gets datagram
+TakesIn (Serves datagram packets) act = act ≡ Gets datagram
+TakesIn (Turns datagram user retries) act = act ≡ Gets datagram
 TakesIn h act = Unit {0}
 
 abbrev pub BeginsAs : {A : Type 0} → Happening → Act A → Type 0
 BeginsAs (Begins who to user bytes wanted xo retries) act = (asks_once act ≡ xo) × (asks_for act ≡ wanted)
-BeginsAs (Turns which user retries) act = (asks_once act ≡ false) × (asks_for act ≡ 1)
+BeginsAs (Turns datagram user retries) act = (asks_once act ≡ false) × (asks_for act ≡ 1)
 BeginsAs h act = Unit {0}
 
 -- a packet asks for the page of this table from this place on
-abbrev pub AsksFrom : Content → Which → ℕ → Type 0
+abbrev pub AsksFrom : Content → TableChoice → ℕ → Type 0
 AsksFrom (Request mask xo timer tid user bytes) table start = RequestSpells user table start
 AsksFrom f table start = ⊥
 
 -- these packets are the page that the datagram which came asks for: of which of the router's tables, and from which
 -- place
-pub record IsPageAsked (tables : Option Tables) (n : Network) (which : ℕ) (packets : List Packet) : Type 0 where
+pub record IsPageAsked (tables : Option Tables) (n : Network) (datagram : ℕ) (packets : List Packet) : Type 0 where
   pub has : Tables
   pub are_tables : tables ≡ Some has
   pub request : Sent
-  pub was_sent : packet_at n.sent which ≡ Some request
-  pub table : Which
+  pub was_sent : packet_at n.sent datagram ≡ Some request
+  pub table : TableChoice
   pub start : ℕ
   pub asks_from : AsksFrom request.packet table start
   pub page : packets ≡ page_answer (table_of table has) start
@@ -105,23 +106,24 @@ abbrev pub AnswersAs : {A : Type 0} → Option Tables → Network → Happening 
 AnswersAs tables n (Answers at key packets) act r =
     (count : ℕ) × (act ≡ Calls (Transactions (Answer key packets)))
     × (r ≡ report.Transactions (atp_report.Answered count))
-AnswersAs tables n (Serves which packets) act r =
-    (count : ℕ) × (act ≡ Gets which) × (r ≡ report.Zones (zip_report.Served count)) × IsPageAsked tables n which packets
+AnswersAs tables n (Serves datagram packets) act r =
+    (count : ℕ) × (act ≡ Gets datagram) × (r ≡ report.Zones (zip_report.Served count))
+    × IsPageAsked tables n datagram packets
 AnswersAs tables n h act r = Unit {0}
 
 -- an answer that is reported joins its transaction: that of a call, or the router's to what came
 abbrev pub Joins : {A : Type 0} → Network → Happening → Report A → Act A → Type 0
 Joins {A} n h (report.Transactions (atp_report.Answered count)) (Calls (Transactions (Answer key packets))) =
     (done A n h).asked ≡ answered n.asked key.from key.tid packets
-Joins {A} n h (report.Zones (zip_report.Served count)) (Gets which) =
-    (s : Sent) × (packet_at n.sent which ≡ Some s)
+Joins {A} n h (report.Zones (zip_report.Served count)) (Gets datagram) =
+    (s : Sent) × (packet_at n.sent datagram ≡ Some s)
     × ((packets : List Packet) × ((done A n h).asked ≡ answered n.asked s.from (number_of s.packet) packets))
 Joins n h r act = Unit {0}
 
 -- a packet in time came that ends the node's transaction of this number with these packets
-pub record Ends (A : Type 0) (net number : ℕ) (n : Network) (which tid : ℕ) (packets : List Packet) : Type 0 where
+pub record Ends (A : Type 0) (net number : ℕ) (n : Network) (datagram tid : ℕ) (packets : List Packet) : Type 0 where
   pub packet : Sent
-  pub was_sent : packet_at n.sent which ≡ Some packet
+  pub was_sent : packet_at n.sent datagram ≡ Some packet
   pub fresh : is_fresh n.drawn packet ≡ true
   pub ends : (heard {A = A} (n.requesters packet.to) packet.from packet.packet).step ≡ step.Finished packets
   pub comes_to : packet.to ≡ asking net number
@@ -129,10 +131,10 @@ pub record Ends (A : Type 0) (net number : ℕ) (n : Network) (which tid : ℕ) 
 
 -- what came, if a response is reported or the router served a request
 abbrev pub Finishes : {A : Type 0} → ℕ → ℕ → Network → Act A → Report A → Type 0
-Finishes {A} net number n (Gets which) (report.Transactions (atp_report.Response tid packets)) =
-    Ends A net number n which tid packets
-Finishes net number n (Gets which) (report.Zones (zip_report.Served count)) =
-    (s : Sent) × (packet_at n.sent which ≡ Some s)
+Finishes {A} net number n (Gets datagram) (report.Transactions (atp_report.Response tid packets)) =
+    Ends A net number n datagram tid packets
+Finishes net number n (Gets datagram) (report.Zones (zip_report.Served count)) =
+    (s : Sent) × (packet_at n.sent datagram ≡ Some s)
 Finishes net number n act r = Unit {0}
 
 -- the happening is what the event at the node and its report say; the node has these zone tables, if it is the router

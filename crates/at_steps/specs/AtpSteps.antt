@@ -12,7 +12,7 @@ use Rattle.at_zip.specs.Reading.{place_after}
 use Rattle.at_zip.specs.Request.{RequestSpells, request_user}
 use Rattle.at_zip.specs.Zones.{IsTable}
 use Rattle.at_zip.specs.Tables.{Tables, table_of, with_table}
-use Rattle.at_zip.specs.declared.request.Which.{Which}
+use Rattle.at_zip.specs.declared.request.TableChoice.{TableChoice}
 use Rattle.at_zip.specs.declared.fault.ZipFault.{ZipFault}
 use Rattle.at_zone_socket.specs.AtpParts.{AtpState}
 use Rattle.at_zone_socket.specs.ZoneSockets.{Reading, zones_at}
@@ -44,7 +44,7 @@ new_transaction net node responder user bytes wanted xo tid = record {
 }
 
 -- a node asks for the page of a table after these names: one packet, at least once
-abbrev pub page_asked : ℕ → ℕ → Address → Which → List (List ℕ) → ℕ → Transaction
+abbrev pub page_asked : ℕ → ℕ → Address → TableChoice → List (List ℕ) → ℕ → Transaction
 page_asked net node server which names tid =
     new_transaction net node server (request_user which (place_after names)) [] 1 false tid
 
@@ -56,10 +56,10 @@ page_answer table start = page_packet table start ∷ []
 abbrev pub is_plain : {A : Type 0} → Act A → Report A → Bool
 is_plain act (report.Refused number) = true
 is_plain act report.NoMemory = true
-is_plain (Gets which) report.Ignored = true
-is_plain (Gets which) report.Again = true
-is_plain (Gets which) (report.Transactions atp_report.Kept) = true
-is_plain (Gets which) (report.Transactions atp_report.Released) = true
+is_plain (Gets datagram) report.Ignored = true
+is_plain (Gets datagram) report.Again = true
+is_plain (Gets datagram) (report.Transactions atp_report.Kept) = true
+is_plain (Gets datagram) (report.Transactions atp_report.Released) = true
 is_plain (Fires time) report.Again = true
 is_plain (Fires time) (report.Transactions (atp_report.Failed tid)) = true
 is_plain (Fires (timer.Transactions (atp_timer.Release own key))) (report.Transactions atp_report.Expired) = true
@@ -100,7 +100,7 @@ pub record BeginsAsking {A : Type 0} (net number : ℕ) (c : Change A) : Type 0 
 
 -- a reading of a zone table begins: the node asks its router for the first page, one packet, at least once
 pub record BeginsReading {A : Type 0} (net number : ℕ) (router : Option ℕ) (c : Change A) : Type 0 where
-  pub which : Which
+  pub which : TableChoice
   pub tid : ℕ
   pub server : ℕ
   pub is_router : router ≡ Some server
@@ -111,7 +111,7 @@ pub record BeginsReading {A : Type 0} (net number : ℕ) (router : Option ℕ) (
 
 -- the router gets another zone table in the place of one
 pub record SetsTable {A : Type 0} (c : Change A) : Type 0 where
-  pub which : Which
+  pub which : TableChoice
   pub names : List (List ℕ)
   pub tables : Tables
   pub act : c.act ≡ Calls (Zones (zone.Set which names))
@@ -137,16 +137,16 @@ pub record GivesAnswer {A : Type 0} (net number : ℕ) (c : Change A) : Type 0 w
 -- the router answers the newest transaction of a requester under a number, which asked it for the page
 -- of one of its tables from a place on
 pub record ServesPage {A : Type 0} (net number : ℕ) (c : Change A) : Type 0 where
-  pub which : ℕ
+  pub datagram : ℕ
   pub count : ℕ
-  pub act : c.act ≡ Gets which
+  pub act : c.act ≡ Gets datagram
   pub report : c.report ≡ report.Zones (zip_report.Served count)
   pub tables : Tables
   pub are_tables : c.part.zones.tables ≡ Some tables
   pub requester : Address
   pub tid : ℕ
   pub newest : Asked c.asked requester tid (zones_at net number)
-  pub table : Which
+  pub table : TableChoice
   pub start : ℕ
   pub asks_from : RequestSpells (newest.transaction).user table start
   pub one : count ≤ 1
@@ -155,11 +155,11 @@ pub record ServesPage {A : Type 0} (net number : ℕ) (c : Change A) : Type 0 wh
 
 -- the service receives what the newest transaction of a requester under a number asks of it
 pub record HandsUp {A : Type 0} (net number : ℕ) (c : Change A) : Type 0 where
-  pub which : ℕ
+  pub datagram : ℕ
   pub key : Key
   pub user : List ℕ
   pub bytes : List ℕ
-  pub act : c.act ≡ Gets which
+  pub act : c.act ≡ Gets datagram
   pub report : c.report ≡ report.Transactions (atp_report.Asked key user bytes)
   pub newest : Asked c.asked key.from key.tid (serving net number)
   pub is_user : (newest.transaction).user ≡ user
@@ -169,10 +169,10 @@ pub record HandsUp {A : Type 0} (net number : ℕ) (c : Change A) : Type 0 where
 
 -- the newest transaction of the node under a number ends with a response to it
 pub record Finishes {A : Type 0} (net number : ℕ) (c : Change A) : Type 0 where
-  pub which : ℕ
+  pub datagram : ℕ
   pub tid : ℕ
   pub packets : List Packet
-  pub act : c.act ≡ Gets which
+  pub act : c.act ≡ Gets datagram
   pub report : c.report ≡ report.Transactions (atp_report.Response tid packets)
   pub transaction : Transaction
   pub newest : transaction_of c.asked (asking net number) tid ≡ Some transaction
@@ -182,8 +182,8 @@ pub record Finishes {A : Type 0} (net number : ℕ) (c : Change A) : Type 0 wher
 
 -- the packet that a reading asked for comes: it is of an answer to the newest transaction of its number
 pub record ComesToReading {A : Type 0} (net number : ℕ) (c : Change A) : Type 0 where
-  pub which : ℕ
-  pub act : c.act ≡ Gets which
+  pub datagram : ℕ
+  pub act : c.act ≡ Gets datagram
   pub read : Reading
   pub reads : c.part.zones.reading ≡ Some read
   pub from : Address
@@ -194,7 +194,8 @@ pub record ComesToReading {A : Type 0} (net number : ℕ) (c : Change A) : Type 
   pub part : IsPart newest.transaction place ends packet
 
 -- the packet has the last page: with it the list is whole
-pub record TellsAll {A : Type 0} (which : Which) (names : List (List ℕ)) (p : Packet) (r : Report A) : Type 0 where
+pub record TellsAll {A : Type 0} (which : TableChoice) (names : List (List ℕ)) (p : Packet)
+    (r : Report A) : Type 0 where
   pub page : Page
   pub spelled : Spells p.user p.data_ page
   pub last : page.last ≡ true
@@ -215,7 +216,7 @@ pub record TellsFault {A : Type 0} (p : Packet) (r : Report A) : Type 0 where
   pub tells : r ≡ report.Zones (zip_report.Fault number)
 
 -- how a reading of this table with these names ends by a packet
-pub data Tells {A : Type 0} (which : Which) (names : List (List ℕ)) (p : Packet) (r : Report A) : Type 0 where
+pub data Tells {A : Type 0} (which : TableChoice) (names : List (List ℕ)) (p : Packet) (r : Report A) : Type 0 where
   All : TellsAll which names p r → Tells which names p r
   TooMany : TellsTooMany names p r → Tells which names p r
   Faulty : TellsFault p r → Tells which names p r

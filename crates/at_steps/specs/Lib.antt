@@ -3,6 +3,7 @@ pub mod AtpHappenings
 pub mod AtpReports
 pub mod AtpSteps
 pub mod Entries
+pub mod Foreign
 pub mod NameHappenings
 pub mod NameSteps
 pub mod Safety

@@ -14,17 +14,18 @@ use Rattle.at_name_socket.specs.NameSockets.{names_of}
 use Rattle.at_name_socket.specs.Sockets.{IsSocket}
 use Rattle.at_name_socket.specs.Steps as sockets
 use Rattle.at_node.specs.Numbers.{drawn_by}
-use Rattle.at_event.specs.Kinds.{Kind, Nbp, reporter_of}
+use Rattle.at_event.specs.Kinds.{Speaker, Nbp}
 use Rattle.at_event.specs.Kinds.Names.{IsZone}
 use Rattle.at_node.specs.Nodes.{NodeState}
 use Rattle.at_event.specs.Outcomes.{Outcome}
 use Rattle.at_node.specs.declared.numbers.Draw.{Draw}
 use Rattle.at_node.specs.declared.numbers.Draw.TheVariants.{Lookup}
 use Rattle.at_steps.specs.Acts.{Act}
+use Rattle.at_steps.specs.Foreign.{IsAnothers}
 use Rattle.at_steps.specs.NameSteps.{IsStep}
 
 -- is it NBP's?
-abbrev pub is_nbp : Kind → Bool
+abbrev pub is_nbp : Speaker → Bool
 is_nbp Nbp = true
 is_nbp other = false
 
@@ -100,8 +101,6 @@ IsHappening {A} setting history net number n act o = Happens setting history net
 
 -- ---- steps of other protocols
 
--- The step leaves this part as it was, and sends no packet of it. Its report is not this part's.
-pub record IsForeign {A : Type 0} (n : NodeState) (act : Act A) (o : Outcome A NodeState) : Type 0 where
-  pub same : o.state.names ≡ n.names
-  pub sends : AllByRecursion (λ p. (p.kind == nbp_kind) ≡ false) o.out
-  pub reports : is_nbp (reporter_of o.report) ≡ false
+-- the step is another protocol's
+abbrev pub IsForeign : {A : Type 0} → NodeState → Act A → Outcome A NodeState → Type 0
+IsForeign n act o = IsAnothers is_nbp nbp_kind (λ (m : NodeState). m.names) n act o

@@ -24,10 +24,10 @@ use Rattle.at_steps.specs.Acts.{Act, Calls, Fires, Gets}
 abbrev pub is_plain : {A : Type 0} → Act A → Report A → Bool
 is_plain act (report.Refused number) = true
 is_plain act report.NoMemory = true
-is_plain (Gets which) report.Ignored = true
-is_plain (Gets which) (report.Names nbp_report.Relayed) = true
-is_plain (Gets which) (report.Names (nbp_report.Matched count)) = true
-is_plain (Gets which) (report.Names (nbp_report.Added count)) = true
+is_plain (Gets datagram) report.Ignored = true
+is_plain (Gets datagram) (report.Names nbp_report.Relayed) = true
+is_plain (Gets datagram) (report.Names (nbp_report.Matched count)) = true
+is_plain (Gets datagram) (report.Names (nbp_report.Added count)) = true
 is_plain (Fires (timer.Names (nbp_timer.Lookup id))) report.Again = true
 is_plain act r = false
 

@@ -1,7 +1,7 @@
 -- What a step of a node is in words of its user's session: which reports the session keeps, and which zone may be
 -- picked (Inside AppleTalk, ZIP, "GetZoneList", "GetLocalZones"; NBP, "Name lookup").
 use Rattle.std.specs.Prelude.{◌≡◌, ℕ, List, true}
-use Rattle.at_event.specs.Kinds.{Kind, Session, reporter_of}
+use Rattle.at_event.specs.Kinds.{Speaker, Session, reporter_of}
 use Rattle.at_event.specs.declared.Call.TheVariants.{Names}
 use Rattle.at_event.specs.declared.Call.TheVariants as protocol
 use Rattle.at_event.specs.declared.names.NameCall.TheVariants.{Finish}
@@ -21,7 +21,7 @@ pick_kept s zone other = s
 abbrev pub after : {A : Type 0} → SessionState → Act A → Report A → SessionState
 after s (Calls (protocol.Session (Pick zone))) r = pick_kept s zone r
 after s (Calls (Names (Finish id))) r = finds_kept s r
-after s (Gets which) r = list_kept s r
+after s (Gets datagram) r = list_kept s r
 after s act r = s
 
 -- a zone is picked by this call alone, and stands in a zone list that was read last
@@ -30,7 +30,7 @@ Picks s (Calls (protocol.Session (Pick zone))) report.Picked = is_listed s zone 
 Picks s act r = ⊥
 
 -- so each report of a session tells this; the others are not its own
-abbrev pub MayPick : {A : Type 0} → SessionState → Act A → Report A → Kind → Type 0
+abbrev pub MayPick : {A : Type 0} → SessionState → Act A → Report A → Speaker → Type 0
 MayPick s act r Session = Picks s act r
 MayPick s act r other = Unit {0}
 

@@ -17,7 +17,7 @@ use Rattle.at_adsp.specs.Network.{Sent, Setting, Strange, Takes, Ticks, Writes, 
 use Rattle.at_adsp.specs.Streams.{Stream}
 use Rattle.at_nbp.specs.declared.find.Find.{Find as Found}
 use Rattle.at_session.specs.Sessions.{SessionState, address_at}
-use Rattle.at_event.specs.Kinds.{Kind, Adsp, reporter_of}
+use Rattle.at_event.specs.Kinds.{Speaker, Adsp}
 use Rattle.at_event.specs.Outcomes.{Outcome}
 use Rattle.at_event.specs.declared.Call.TheVariants.{Streams}
 use Rattle.at_event.specs.declared.streams.StreamCall.TheVariants.{Open, Listen, Connect, Write, Read, Reset, Close}
@@ -32,10 +32,11 @@ use Rattle.at_node.specs.declared.numbers.Draw.{Draw}
 use Rattle.at_node.specs.declared.numbers.Draw.TheVariants.{Conn}
 use Rattle.at_stream_socket.specs.Sockets.{streams_at}
 use Rattle.at_steps.specs.Acts.{Act, Calls, Fires, Gets}
+use Rattle.at_steps.specs.Foreign.{IsAnothers}
 use Rattle.at_steps.specs.StreamSteps.{Change, IsStep}
 
 -- is it ADSP's?
-abbrev pub is_adsp : Kind → Bool
+abbrev pub is_adsp : Speaker → Bool
 is_adsp Adsp = true
 is_adsp other = false
 
@@ -114,7 +115,7 @@ happening_of s at (Calls (Streams (Read id count))) r = Some (Reads at id count)
 happening_of s at (Calls (Streams (Reset id))) (report.Streams adsp_report.Reset) = Some (Resets at id)
 happening_of s at (Fires (timer.Streams (adsp_timer.Resend id))) r = Some (Ticks at id Retransmit)
 happening_of s at (Fires (timer.Streams (adsp_timer.Probe id))) r = Some (Ticks at id Probe)
-happening_of s at (Gets which) r = Some (Takes which)
+happening_of s at (Gets datagram) r = Some (Takes datagram)
 happening_of s at act r = None
 
 -- it is this happening, or nothing happens here
@@ -167,8 +168,6 @@ Passes setting history net number n act o =
     (h : Happens setting history net number n act o)
     × (streams (done setting (after setting history) h.happening) ≡ streams (after setting history))
 
--- The step leaves this part as it was, and sends no segment. Its report is not this part's.
-pub record IsForeign {A : Type 0} (n : NodeState) (act : Act A) (o : Outcome A NodeState) : Type 0 where
-  pub same : o.state.streams ≡ n.streams
-  pub sends : AllByRecursion (λ p. (p.kind == adsp_kind) ≡ false) o.out
-  pub reports : is_adsp (reporter_of o.report) ≡ false
+-- the step is another protocol's
+abbrev pub IsForeign : {A : Type 0} → NodeState → Act A → Outcome A NodeState → Type 0
+IsForeign n act o = IsAnothers is_adsp adsp_kind (λ (m : NodeState). m.streams) n act o

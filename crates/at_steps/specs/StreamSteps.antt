@@ -26,14 +26,14 @@ abbrev pub is_plain_report : {A : Type 0} → StreamReport A → Act A → Bool
 is_plain_report adsp_report.ListenSet (Calls (Streams (Listen on))) = true
 is_plain_report (adsp_report.Closed it) (Calls (Streams (Close id))) = it == id
 is_plain_report (adsp_report.Closed it) (Fires (timer.Streams (adsp_timer.Probe id))) = it == id
-is_plain_report (adsp_report.Closed it) (Gets which) = true
+is_plain_report (adsp_report.Closed it) (Gets datagram) = true
 is_plain_report (adsp_report.Freed it) (Calls (Streams (Close id))) = it == id
 is_plain_report (adsp_report.Freed it) (Fires (timer.Streams (adsp_timer.Probe id))) = it == id
 is_plain_report adsp_report.Idle (Fires (timer.Streams (adsp_timer.Resend id))) = true
-is_plain_report adsp_report.Turned (Gets which) = true
-is_plain_report (adsp_report.Denied id) (Gets which) = true
-is_plain_report (adsp_report.Heard id items) (Gets which) = true
-is_plain_report (adsp_report.Dropped id) (Gets which) = true
+is_plain_report adsp_report.Turned (Gets datagram) = true
+is_plain_report (adsp_report.Denied id) (Gets datagram) = true
+is_plain_report (adsp_report.Heard id items) (Gets datagram) = true
+is_plain_report (adsp_report.Dropped id) (Gets datagram) = true
 is_plain_report r act = false
 
 -- a report that says nothing new of streams: one of theirs, or one that other parts give too
@@ -42,8 +42,8 @@ is_plain act (report.Streams r) = is_plain_report r act
 is_plain act (report.Refused number) = true
 is_plain act report.NoMemory = true
 is_plain (Fires (timer.Streams time)) report.Again = true
-is_plain (Gets which) report.Ignored = true
-is_plain (Gets which) report.Again = true
+is_plain (Gets datagram) report.Ignored = true
+is_plain (Gets datagram) report.Again = true
 is_plain act r = false
 
 -- All ends that were ever made, before and after, newest first; the number of the event, the node's socket, all that
@@ -94,19 +94,19 @@ pub record AsksFor {A : Type 0} (c : Change A) : Type 0 where
 
 -- a request comes, and listening makes an end
 pub record Answers {A : Type 0} (c : Change A) : Type 0 where
-  pub which : ℕ
+  pub datagram : ℕ
   pub id : ℕ
   pub request : Sent
-  pub act : c.act ≡ Gets which
+  pub act : c.act ≡ Gets datagram
   pub report : c.report ≡ report.Streams (adsp_report.Made id)
-  pub came : packet_at c.sent which ≡ Some request
+  pub came : packet_at c.sent datagram ≡ Some request
   pub streams : c.now ≡ begun c.event c.at id true request.from ∷ c.part
 
 -- an end opens, and has a peer from then on
 pub record Opens {A : Type 0} (c : Change A) : Type 0 where
-  pub which : ℕ
+  pub datagram : ℕ
   pub id : ℕ
-  pub act : c.act ≡ Gets which
+  pub act : c.act ≡ Gets datagram
   pub report : c.report ≡ report.Streams (adsp_report.Opened id)
   pub opens : OpensWith c.part c.now c.at id
 

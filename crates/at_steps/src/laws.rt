@@ -11,7 +11,7 @@ ghost use Rattle.at_transaction_socket.specs.TransactionSockets.{asking};
 ghost use Rattle.at_event.specs.Kinds.{IsCall};
 ghost use Rattle.at_node.specs.Numbers.{drawn_by, holds};
 ghost use Rattle.at_node.specs.Hearing.{Hears};
-ghost use Rattle.at_event.specs.Kinds.{kind_of_call, kind_of_timer};
+ghost use Rattle.at_event.specs.Kinds.{speaker_of_call, speaker_of_timer};
 ghost use Rattle.at_node.specs.Nodes.{NodeState, called, timed};
 ghost use Rattle.at_event.specs.Outcomes.{Outcome};
 ghost use Rattle.at_event.specs.Services.{is_asked};
@@ -34,7 +34,7 @@ pub mod streams;
 /// draws.
 pub fn a_call_is_a_happening_of_atp<A: Allocator>()
     ensures { (history : List Happening) (n : NodeState) (call : Call A) → Stands A history n.seat.net n.seat.number n
-        → IsCall call → is_atp (kind_of_call call) ≡ true
+        → IsCall call → is_atp (speaker_of_call call) ≡ true
         → ((tid : ℕ) → drawn_by (called n call).report ≡ Some (Tid tid)
         → NoneHolds (after A history).responders (asking n.seat.net n.seat.number) tid)
         → IsHappening A history n.seat.net n.seat.number n (Calls call) (called n call) }
@@ -49,7 +49,7 @@ pub fn a_call_is_a_happening_of_atp<A: Allocator>()
 /// A timer of ATP or ZIP that fires is one happening among requesters and responders.
 pub fn a_timer_is_a_happening_of_atp<A: Allocator>()
     ensures { (history : List Happening) (n : NodeState) (time : Timer) → Stands A history n.seat.net n.seat.number n
-        → is_atp (kind_of_timer time) ≡ true
+        → is_atp (speaker_of_timer time) ≡ true
         → IsHappening A history n.seat.net n.seat.number n (Fires time) (timed n time) }
 {
     at_atp::laws::numbers_stay_open::<A>();
@@ -58,14 +58,14 @@ pub fn a_timer_is_a_happening_of_atp<A: Allocator>()
 /// A packet in time that comes to a node is one happening among requesters and responders, if the service answers
 /// later, and if no responder holds the number that it makes the node draw.
 pub fn a_packet_is_a_happening_of_atp<A: Allocator>()
-    ensures { (history : List Happening) (n : NodeState) (which : ℕ) (s : Sent) (said : Reply A)
+    ensures { (history : List Happening) (n : NodeState) (datagram : ℕ) (s : Sent) (said : Reply A)
         (o : Outcome A NodeState) → Stands A history n.seat.net n.seat.number n
-        → packet_at (after A history).sent which ≡ Some s → is_fresh (after A history).drawn s ≡ true
+        → packet_at (after A history).sent datagram ≡ Some s → is_fresh (after A history).drawn s ≡ true
         → ((tid : ℕ) → drawn_by o.report ≡ Some (Tid tid)
         → NoneHolds (after A history).responders (asking n.seat.net n.seat.number) tid)
         → (is_asked o.report ≡ true → said ≡ Later)
         → Hears said n (canonical s.to s.from atp_kind (spelled s.packet)) o
-        → IsHappening A history n.seat.net n.seat.number n (Gets which) o }
+        → IsHappening A history n.seat.net n.seat.number n (Gets datagram) o }
 {
     at_atp::laws::responses_are_answers::<A>();
     at_atp::laws::what_is_sent_is_lawful::<A>();
@@ -86,13 +86,13 @@ pub fn another_protocols_step_passes_atp<A: Allocator>()
 
 /// An event of another protocol leaves the part of ATP and ZIP as it was, and sends no packet of that part.
 pub fn another_protocols_event_is_foreign<A: Allocator>()
-    ensures call { (n : NodeState) (call : Call A) → is_atp (kind_of_call call) ≡ false
+    ensures call { (n : NodeState) (call : Call A) → is_atp (speaker_of_call call) ≡ false
         → IsForeign n (Calls call) (called n call) }
-    ensures timer { (n : NodeState) (time : Timer) → is_atp (kind_of_timer time) ≡ false
+    ensures timer { (n : NodeState) (time : Timer) → is_atp (speaker_of_timer time) ≡ false
         → IsForeign {A = A} n (Fires time) (timed n time) }
-    ensures datagram { (n : NodeState) (which : ℕ) (to from : Address) (kind : ℕ) (bytes : List ℕ) (said : Reply A)
+    ensures datagram { (n : NodeState) (datagram : ℕ) (to from : Address) (kind : ℕ) (bytes : List ℕ) (said : Reply A)
         (o : Outcome A NodeState) → (kind == atp_kind) ≡ false → Hears said n (canonical to from kind bytes) o
-        → IsForeign n (Gets which) o }
+        → IsForeign n (Gets datagram) o }
 {
     at_ddp::laws::the_protocol_is_read_as_written();
 }

@@ -16,8 +16,8 @@ use Rattle.at_adsp_end.specs.Sending.{closing}
 use Rattle.at_adsp_end.specs.declared.fault.StreamFault.{StreamFault}
 use Rattle.at_adsp_end.specs.declared.fault.StreamFault.TheVariants.{NotOpen}
 use Rattle.at_adsp_end.specs.declared.item.Item.{Item}
-use Rattle.at_adsp_end.specs.declared.step.Step.{Step}
-use Rattle.at_adsp_end.specs.declared.step.Step.TheVariants as step
+use Rattle.at_adsp_end.specs.declared.change.EndChange.{EndChange}
+use Rattle.at_adsp_end.specs.declared.change.EndChange.TheVariants as step
 use Rattle.at_adsp_end.specs.declared.tick.Tick.{Tick}
 use Rattle.at_adsp_end.specs.declared.tick.Tick.TheVariants as tick
 use Rattle.at_adsp_ends.specs.Calls.{closed_at, frees, read_at, ticked_at, unread_at}
@@ -53,7 +53,7 @@ nothing_posted s box boxed before after b sends = b.back ∙ sends.items ∙ app
 
 -- ---- reports
 
-pub told_some : (A : Type 0) (s : Step) → wants_memory {A = A} (told_by s) ≡ false
+pub told_some : (A : Type 0) (s : EndChange) → wants_memory {A = A} (told_by s) ≡ false
 told_some A step.Ignored = refl
 told_some A (step.Made id) = refl
 told_some A (step.Opened id) = refl
@@ -67,7 +67,7 @@ told_some A (step.Closed id) = refl
 told_some A (step.Freed id) = refl
 
 -- what is told takes memory, unless it is told as ignored
-pub told_takes : (A : Type 0) (s : Step) → (s ≡ step.Ignored → ⊥) → takes_memory {A = A} (told_by s) ≡ true
+pub told_takes : (A : Type 0) (s : EndChange) → (s ≡ step.Ignored → ⊥) → takes_memory {A = A} (told_by s) ≡ true
 told_takes A step.Ignored heeds = absurd (heeds refl)
 told_takes A (step.Made id) heeds = refl
 told_takes A (step.Opened id) heeds = refl
@@ -112,7 +112,7 @@ call_step {A} s old new told (Err refusal) tried box boxed before after some tak
 -- ---- closing and ticking
 
 -- a step that is told as this one is
-told_so : (A : Type 0) (s answer : Step) → takes_memory {A = A} (told_by s) ≡ true → s ≡ answer
+told_so : (A : Type 0) (s answer : EndChange) → takes_memory {A = A} (told_by s) ≡ true → s ≡ answer
     → takes_memory {A = A} (told_by answer) ≡ true
 told_so A s answer takes same = subst (λ x. takes_memory {A = A} (told_by x) ≡ true) same takes
 
@@ -122,7 +122,7 @@ pub closing_takes : (A : Type 0) (t : EndTable) (o : Option EndState)
 closing_takes A t None d is = absurd (cc)
 closing_takes A t (Some e) d is = go (is_open e.phase) is
   where
-    go : (b : Bool) → ◌≡◌ {A = Result (Done Step) StreamFault}
+    go : (b : Bool) → ◌≡◌ {A = Result (Done EndChange) StreamFault}
         (cond b (Ok (moved t (step.Closed e.id) (closing wire e).after (closing wire e).sent))
         (Ok (freed t (step.Freed e.id) e))) (Ok d)
         → takes_memory {A = A} (told_by d.answer) ≡ true
@@ -148,7 +148,7 @@ pub ticking_takes : (A : Type 0) (t : EndTable) (tick : Tick) (o : Option EndSta
 ticking_takes A t tick None d is = absurd (cc)
 ticking_takes A t tick (Some e) d is = go (is_closed e.phase) (frees e tick) is
   where
-    go : (closed last : Bool) → ◌≡◌ {A = Result (Done Step) StreamFault}
+    go : (closed last : Bool) → ◌≡◌ {A = Result (Done EndChange) StreamFault}
         (cond closed (Err NotOpen)
         (cond last (Ok (freed t (step.Freed e.id) e)) (Ok (settled t (ticked wire e tick))))) (Ok d)
         → takes_memory {A = A} (told_by d.answer) ≡ true

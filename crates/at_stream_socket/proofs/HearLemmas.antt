@@ -14,8 +14,8 @@ use Rattle.at_adsp_frame.specs.declared.fault.AdspFault.{AdspFault}
 use Rattle.at_adsp_frame.specs.declared.fault.AdspFault.TheVariants as faults
 use Rattle.at_adsp_end.specs.Ends.{spelled_all}
 use Rattle.at_adsp_end.specs.Positions.{wire}
-use Rattle.at_adsp_end.specs.declared.step.Step.{Step}
-use Rattle.at_adsp_end.specs.declared.step.Step.TheVariants as step
+use Rattle.at_adsp_end.specs.declared.change.EndChange.{EndChange}
+use Rattle.at_adsp_end.specs.declared.change.EndChange.TheVariants as step
 use Rattle.at_adsp_ends.specs.Moves.{IsTaken}
 use Rattle.at_adsp_ends.specs.Openings.{ignored}
 use Rattle.at_adsp_ends.specs.Receiving.{made_id, received}
@@ -39,19 +39,19 @@ adsp_number faults.NoMemory input h = let stands = h.stands in let opening = sta
 
 -- a segment that is ignored sends nothing, so it finds memory enough
 pub ignored_ok : {E : Type 0} (old : EndTable) (from : Address) (segment : Content) (box : Outbox)
-    (tried : Result Step E) →
+    (tried : Result EndChange E) →
     ((received wire old from segment).answer ≡ step.Ignored → received wire old from segment ≡ ignored old) →
     (made_id (received wire old from segment).answer ≡ None
     → HasRoomToSend box (spelled_all (received wire old from segment).sent) → IsOk tried)
     → (received wire old from segment).answer ≡ step.Ignored → IsOk tried
 ignored_ok old from segment box tried law memory is =
     let same = law is in
-    memory (ap (λ (d : Done Step). made_id d.answer) same)
-    (subst (λ (d : Done Step). HasRoomToSend box (spelled_all d.sent)) (sym same)
+    memory (ap (λ (d : Done EndChange). made_id d.answer) same)
+    (subst (λ (d : Done EndChange). HasRoomToSend box (spelled_all d.sent)) (sym same)
     (record { places = omega arith; bytes = omega arith }))
 
 -- the report of what came of a segment
-abbrev pub reported : {A E : Type 0} → Result Step E → Report A
+abbrev pub reported : {A E : Type 0} → Result EndChange E → Report A
 reported (Ok step) = told_by step
 reported (Err e) = NoMemory
 
@@ -72,7 +72,8 @@ module _ (A : Type 0) (s : Seat) (old : EndTable) (d : Datagram) (before : List 
           (refl, refl, sym (append-nil before)),
         )
 
-    pub taken_comes : {E : Type 0} (new : EndTable) (segment : Content) (tried : Result Step E) (box boxed : Outbox)
+    pub taken_comes : {E : Type 0} (new : EndTable) (segment : Content) (tried : Result EndChange E)
+        (box boxed : Outbox)
         (after : List Posted) →
         Spells d.data_ segment → IsBox s box boxed before after
         → IsTaken (received wire old d.from segment) tried old new box boxed

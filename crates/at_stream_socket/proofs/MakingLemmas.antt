@@ -14,8 +14,8 @@ use Rattle.at_adsp_end.specs.Positions.{wire}
 use Rattle.at_adsp_end.specs.Sending.{hearing}
 use Rattle.at_adsp_end.specs.declared.forward.Forward.TheVariants.{Beyond, Jump, Older}
 use Rattle.at_adsp_end.specs.declared.phase.Phase.TheVariants as phase
-use Rattle.at_adsp_end.specs.declared.step.Step.{Step}
-use Rattle.at_adsp_end.specs.declared.step.Step.TheVariants.{Again, Denied, Heard}
+use Rattle.at_adsp_end.specs.declared.change.EndChange.{EndChange}
+use Rattle.at_adsp_end.specs.declared.change.EndChange.TheVariants.{Again, Denied, Heard}
 use Rattle.at_adsp_ends.specs.Openings.{ack_came, answer_came, answers_again, confirms_again, connected_to, denial_came}
 use Rattle.at_adsp_ends.specs.Openings.{ignored, is_answered, opened, request_came, room_for, sender_of}
 use Rattle.at_adsp_ends.specs.Receiving.{any_request_came, made_id, part_came, received, segment_came}
@@ -23,10 +23,10 @@ use Rattle.at_adsp_ends.specs.Receiving.{settled}
 use Rattle.at_adsp_ends.specs.Tables.{Done, EndTable, by_id, by_remote, freed, next_id, stayed}
 use Rattle.at_stream_socket.specs.Hearing.{Makes, Requests}
 
-abbrev MakesNone : Done Step → Type 0
+abbrev MakesNone : Done EndChange → Type 0
 MakesNone d = made_id d.answer ≡ None
 
-either : (b : Bool) (x y : Done Step) → MakesNone x → MakesNone y → MakesNone (cond b x y)
+either : (b : Bool) (x y : Done EndChange) → MakesNone x → MakesNone y → MakesNone (cond b x y)
 either true x y h g = h
 either false x y h g = g
 
@@ -74,7 +74,7 @@ module _ (t : EndTable) (from : Address) (s : Content) where
   -- ---- requests
 
   module _ (id : ℕ) where
-    abbrev MakesIt : Done Step → Type 0
+    abbrev MakesIt : Done EndChange → Type 0
     MakesIt d = made_id d.answer ≡ Some id
 
     never : (o : Option ℕ) → o ≡ None → o ≡ Some id → Requests t from s id

@@ -5,8 +5,8 @@ use Rattle.at_ddp.specs.Protocols.{adsp_kind}
 use Rattle.at_adsp_frame.specs.Segments.{Content}
 use Rattle.at_adsp_end.specs.Ends.{spelled_all}
 use Rattle.at_adsp_end.specs.declared.item.Item.{Item}
-use Rattle.at_adsp_end.specs.declared.step.Step.{Step}
-use Rattle.at_adsp_end.specs.declared.step.Step.TheVariants as step
+use Rattle.at_adsp_end.specs.declared.change.EndChange.{EndChange}
+use Rattle.at_adsp_end.specs.declared.change.EndChange.TheVariants as step
 use Rattle.at_adsp_ends.specs.Tables.{Done, EndTable}
 use Rattle.at_event.specs.Outcomes.{Outcome, Outgoing, sent_by}
 use Rattle.at_event.specs.declared.Report.{Report}
@@ -22,7 +22,7 @@ abbrev pub sent_of : Seat → List (Address × Content) → List Outgoing
 sent_of s sent = sent_by (streams_at s.net s.number) adsp_kind (spelled_all sent)
 
 -- the report of a step of an end
-abbrev pub told_by : {A : Type 0} → Step → Report A
+abbrev pub told_by : {A : Type 0} → EndChange → Report A
 told_by step.Ignored = report.Ignored
 told_by (step.Made id) = report.Streams (adsp_report.Made id)
 told_by (step.Opened id) = report.Streams (adsp_report.Opened id)

@@ -1,5 +1,5 @@
 //! The calls and the timers of the socket for streams.
-ghost use Rattle.std.specs.Prelude.{◌≡◌, List};
+ghost use Rattle.std.specs.Prelude.{List};
 ghost use Rattle.at_ddp.specs.Datagrams.{Posted};
 ghost use Rattle.at_event.specs.Outcomes.{IsStep};
 ghost use Rattle.at_stream_socket.specs.Calls.{close_called, connect_called, listen_called, reset_called, tick_fired};

@@ -1,5 +1,5 @@
 //! What segments do at the socket for streams.
-ghost use Rattle.std.specs.Prelude.{◌≡◌, ◌≢◌, ℕ, IfSome, Some, false};
+ghost use Rattle.std.specs.Prelude.{◌≡◌, ℕ, IfSome, Some, false};
 ghost use Rattle.at_adsp_frame.specs.Fault.{number_of};
 ghost use Rattle.at_adsp_frame.specs.declared.fault.AdspFault.TheVariants.{NoMemory};
 ghost use Rattle.at_event.specs.Outcomes.{Comes, refused_as};

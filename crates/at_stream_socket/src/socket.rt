@@ -1,5 +1,5 @@
 //! The socket of a node for streams, with its table of ends, and how steps and refusals of ends are reported.
-ghost use Rattle.std.specs.Prelude.{◌≡◌, ◌<◌, Some, false, option_map, length, slice_get, IfSome};
+ghost use Rattle.std.specs.Prelude.{◌≡◌, ◌<◌, Some, false, length, slice_get, IfSome};
 ghost use Rattle.std.specs.List.{AllByRecursion, list_any};
 ghost use Rattle.at_adsp_end.specs.Ends.{FitsRooms};
 ghost use Rattle.at_adsp_end.specs.Fault.{number_of};
@@ -9,7 +9,7 @@ ghost use Rattle.at_event.specs.Outcomes.{refused_as};
 ghost use Rattle.at_event.specs.Services.{is_asked};
 ghost use Rattle.at_stream_socket.specs.Sockets.{told_by};
 
-use at_adsp_ends::{Ends, Rooms, Step, StreamFault, Tick};
+use at_adsp_ends::{EndChange, Ends, Rooms, StreamFault, Tick};
 use at_event::{Report, StreamReport};
 use std::alloc::{Allocator, Global};
 use std::marker::Model;
@@ -84,22 +84,22 @@ impl<A: Allocator + Copy> StreamSocket<A> {
 }
 
 // The report of a step.
-pub(crate) fn told_by<A: Allocator>(step: Step) -> Report<A>
+pub(crate) fn told_by<A: Allocator>(step: EndChange) -> Report<A>
     ensures report { result ≡ told_by step }
     ensures not_asked { is_asked result ≡ false }
 {
     match step {
-        Step::Ignored => Report::Ignored,
-        Step::Made(id) => Report::Streams(StreamReport::Made(id)),
-        Step::Opened(id) => Report::Streams(StreamReport::Opened(id)),
-        Step::Turned => Report::Streams(StreamReport::Turned),
-        Step::Denied(id) => Report::Streams(StreamReport::Denied(id)),
-        Step::Again => Report::Again,
-        Step::Idle => Report::Streams(StreamReport::Idle),
-        Step::Heard { id, items } => Report::Streams(StreamReport::Heard { id, items }),
-        Step::Dropped(id) => Report::Streams(StreamReport::Dropped(id)),
-        Step::Closed(id) => Report::Streams(StreamReport::Closed(id)),
-        Step::Freed(id) => Report::Streams(StreamReport::Freed(id)),
+        EndChange::Ignored => Report::Ignored,
+        EndChange::Made(id) => Report::Streams(StreamReport::Made(id)),
+        EndChange::Opened(id) => Report::Streams(StreamReport::Opened(id)),
+        EndChange::Turned => Report::Streams(StreamReport::Turned),
+        EndChange::Denied(id) => Report::Streams(StreamReport::Denied(id)),
+        EndChange::Again => Report::Again,
+        EndChange::Idle => Report::Streams(StreamReport::Idle),
+        EndChange::Heard { id, items } => Report::Streams(StreamReport::Heard { id, items }),
+        EndChange::Dropped(id) => Report::Streams(StreamReport::Dropped(id)),
+        EndChange::Closed(id) => Report::Streams(StreamReport::Closed(id)),
+        EndChange::Freed(id) => Report::Streams(StreamReport::Freed(id)),
     }
 }
 

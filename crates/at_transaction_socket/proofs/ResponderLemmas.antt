@@ -7,7 +7,7 @@ use Rattle.at_ddp.specs.declared.address.Address.{Address}
 use Rattle.at_ddp.specs.Protocols.{atp_kind}
 use Rattle.at_atp_frame.specs.Frames as Frames
 use Rattle.at_atp_frame.specs.Frames.{Content, spelled_all}
-use Rattle.at_atp_responder.specs.Records.{Record, taken, finds_no_place}
+use Rattle.at_atp_responder.specs.Records.{Record, received, finds_no_place}
 use Rattle.at_atp_frame.specs.declared.frame.Frame.{Frame}
 use Rattle.at_atp_frame.specs.declared.frame.Frame.TheVariants as frames
 use Rattle.at_atp_responder.specs.declared.reception.Reception.{Reception}
@@ -72,8 +72,8 @@ module _ (A : Type 0) (said : Reply A) (s : Seat) (a : TransactionState) (from :
   pub service_release : (f : Content) (before after : List Posted) (old new : List Record) (own : Address)
       (r : Report A) →
       is_release f ≡ true → old ≡ a.service_responder → own ≡ serving s.net s.number → r
-      ≡ released_report (taken old from f).reception → new ≡ (taken old from f).after →
-      after ≡ before ++ map posted (sent_by own atp_kind (spelled_all (taken old from f).sent))
+      ≡ released_report (received old from f).reception → new ≡ (received old from f).after →
+      after ≡ before ++ map posted (sent_by own atp_kind (spelled_all (received old from f).sent))
       → IsStep (service_heard said s a from f) a before r (record a { service_responder = new }) after
   service_release (Frames.Request mask xo timer tid user bytes) before after old new own r this is at reports becomes
       sends = absurd (false≢true this)
@@ -81,21 +81,21 @@ module _ (A : Type 0) (said : Reply A) (s : Seat) (a : TransactionState) (from :
       sends = absurd (false≢true this)
   service_release (Frames.Release tid) before after old new own r this is at reports becomes sends =
       let f = Frames.Release tid in
-      rw (ap wants_memory reports ∙ release_some A (taken old from f).reception) (
-        reports ∙ ap (λ (rs : List Record). released_report (taken rs from f).reception) is,
-        (λ i. record a { service_responder = (becomes ∙ ap (λ (rs : List Record). (taken rs from f).after) is) i }),
-        sends ∙ (λ i. before ++ map posted (sent_by (at i) atp_kind (spelled_all (taken (is i) from f).sent))),
+      rw (ap wants_memory reports ∙ release_some A (received old from f).reception) (
+        reports ∙ ap (λ (rs : List Record). released_report (received rs from f).reception) is,
+        (λ i. record a { service_responder = (becomes ∙ ap (λ (rs : List Record). (received rs from f).after) is) i }),
+        sends ∙ (λ i. before ++ map posted (sent_by (at i) atp_kind (spelled_all (received (is i) from f).sent))),
       )
 
   -- a request that finds a place, and has an effect
   pub service_takes : (f : Content) (user bytes : List ℕ) → (finds_no_place a.service_responder from f ≡ true → ⊥)
-      → ((taken a.service_responder from f).reception ≡ reception.Ignored → ⊥)
+      → ((received a.service_responder from f).reception ≡ reception.Ignored → ⊥)
       → takes_memory (service_asked s a from f user bytes said).report ≡ true
   service_takes f user bytes some heeds = rw (not_true (finds_no_place a.service_responder from f) some)
-      (go (taken a.service_responder from f).reception heeds)
+      (go (received a.service_responder from f).reception heeds)
     where
       go : (r : Reception) → (r ≡ reception.Ignored → ⊥)
-          → takes_memory (at_service s a (taken a.service_responder from f) user bytes said r).report ≡ true
+          → takes_memory (at_service s a (received a.service_responder from f) user bytes said r).report ≡ true
       go reception.Ignored heeds = absurd (heeds refl)
       go (reception.Again count) heeds = refl
       go reception.Released heeds = refl

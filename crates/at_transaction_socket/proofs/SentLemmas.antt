@@ -8,13 +8,13 @@ use Rattle.at_ddp.specs.declared.address.Address.{Address}
 use Rattle.at_atp_frame.specs.Frames.{spelled_all}
 use Rattle.at_atp_frame.specs.Packets.{Packet}
 use Rattle.at_atp_frame.specs.declared.fault.AtpFault.{AtpFault}
-use Rattle.at_atp_responder.specs.Records.{Record, Taken, is_key, asked_for, IsTaken, IsAnswered}
+use Rattle.at_atp_responder.specs.Records.{Record, Received, is_key, asked_for, IsTaken, IsAnswered}
 use Rattle.at_atp_responder.specs.declared.reception.Key.{Key}
 use Rattle.at_atp_responder.specs.declared.reception.Reception.{Reception}
 use Rattle.at_event.specs.Outcomes.{posted, sent_by}
 use Rattle.at_event.proofs.PostLemmas.{posts}
 
-pub taken_posts : (r : Result Reception AtpFault) (t : Taken) (new : List Record) (before after : Outbox)
+pub taken_posts : (r : Result Reception AtpFault) (t : Received) (new : List Record) (before after : Outbox)
     (start items : List Posted) (own : Address) → IfOk r (λ x. IsTaken t x new before after) →
     before.items ≡ start → before.from ≡ own → before.kind ≡ atp_kind → items ≡ after.items
     → OnOk r (items ≡ start ++ map posted (sent_by own atp_kind (spelled_all t.sent)))

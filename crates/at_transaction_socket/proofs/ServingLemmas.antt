@@ -8,14 +8,14 @@ use Rattle.at_ddp.specs.declared.address.Address.{Address}
 use Rattle.at_atp_frame.specs.Frames.{Content, Request, Response, Release}
 use Rattle.at_ddp.specs.Tables.{without_first}
 use Rattle.at_ddp.proofs.Alls.{find_last}
-use Rattle.at_atp_responder.specs.Records.{Record, State, Waiting, Answered, Released, Taken, is_key, repeated}
+use Rattle.at_atp_responder.specs.Records.{Record, State, Waiting, Answered, Released, Received, is_key, repeated}
 use Rattle.at_atp_responder.specs.Records.{came_again, request_came, passed, is_passed_over, released, release_came}
-use Rattle.at_atp_responder.specs.Records.{taken, record_fault}
+use Rattle.at_atp_responder.specs.Records.{received, record_fault}
 use Rattle.at_atp_responder.specs.declared.reception.Key.{Key}
 use Rattle.at_atp_responder.specs.declared.reception.Reception.TheVariants.{New}
 
 -- a new request has a record at the end, and had none
-pub record IsNew (rs : List Record) (t : Taken) (key : Key) : Type 0 where
+pub record IsNew (rs : List Record) (t : Received) (key : Key) : Type 0 where
   pub xo : Bool
   pub mask : ℕ
   pub none : find (is_key key) rs ≡ None
@@ -44,8 +44,8 @@ new_of rs k xo mask (Some r) key is h = go r.state h
     go (Answered packets) g = absurd (cc)
     go Released g = absurd (cc)
 
-pub is_new : (rs : List Record) (from : Address) (f : Content) (key : Key) → (taken rs from f).reception ≡ New key
-    → IsNew rs (taken rs from f) key
+pub is_new : (rs : List Record) (from : Address) (f : Content) (key : Key) → (received rs from f).reception ≡ New key
+    → IsNew rs (received rs from f) key
 is_new rs from (Response place eom sts tid user bytes) key h = absurd (cc)
 is_new rs from (Release tid) key h = released_new (find (is_key (record { from = from; tid = tid })) rs) h
   where
@@ -85,12 +85,12 @@ without_last p (r ∷ rs) x none is = go (λ g. without_last p rs x g is) (p r) 
     go ih false e g = rw e (ap (λ l. r ∷ l) (ih g))
 
 -- its record waits, and taking it away leaves the records as they were
-pub waits : (rs : List Record) (t : Taken) (key : Key) → IsNew rs t key → record_fault (find (is_key key) t.after)
+pub waits : (rs : List Record) (t : Received) (key : Key) → IsNew rs t key → record_fault (find (is_key key) t.after)
     ≡ None
 waits rs t key n = ap (λ l. record_fault (find (is_key key) l)) n.added
     ∙ ap record_fault (find_last (is_key key) rs (record { key = key; state = Waiting n.xo n.mask }) n.none
     (own key n.xo n.mask))
 
-pub undone : (rs : List Record) (t : Taken) (key : Key) → IsNew rs t key → without_first (is_key key) t.after ≡ rs
+pub undone : (rs : List Record) (t : Received) (key : Key) → IsNew rs t key → without_first (is_key key) t.after ≡ rs
 undone rs t key n = ap (without_first (is_key key)) n.added
     ∙ without_last (is_key key) rs (record { key = key; state = Waiting n.xo n.mask }) n.none (own key n.xo n.mask)

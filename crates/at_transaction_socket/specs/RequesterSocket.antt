@@ -6,8 +6,8 @@ use Rattle.at_atp_frame.specs.Fault as atp
 use Rattle.at_atp_frame.specs.Frames.{spelled_all}
 use Rattle.at_atp_requester.specs.Requests.{Heard, Retried, next_number, beginning}
 use Rattle.at_atp_frame.specs.declared.fault.AtpFault.TheVariants.{AtpTooLong, Full}
-use Rattle.at_atp_requester.specs.declared.step.Step.{Step}
-use Rattle.at_atp_requester.specs.declared.step.Step.TheVariants as step
+use Rattle.at_atp_requester.specs.declared.progress.RequestProgress.{RequestProgress}
+use Rattle.at_atp_requester.specs.declared.progress.RequestProgress.TheVariants as step
 use Rattle.at_event.specs.declared.Report.{Report}
 use Rattle.at_event.specs.declared.Report.TheVariants as report
 use Rattle.at_event.specs.declared.transactions.TransactionReport.TheVariants as atp_report
@@ -42,7 +42,7 @@ asked_again s t r = record {
 -- ---- packets
 
 -- the report of a step of a transaction that is the node's own user's
-abbrev pub reported_other : {A : Type 0} → ℕ → Step A → Report A
+abbrev pub reported_other : {A : Type 0} → ℕ → RequestProgress A → Report A
 reported_other tid step.Ignored = report.Ignored
 reported_other tid step.Kept = report.Transactions atp_report.Kept
 reported_other tid step.AskAgain = report.Again

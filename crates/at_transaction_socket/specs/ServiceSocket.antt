@@ -5,7 +5,7 @@ use Rattle.at_ddp.specs.Protocols.{atp_kind}
 use Rattle.at_atp_frame.specs.Fault.{number_of}
 use Rattle.at_atp_frame.specs.Frames.{Content, Request, Response, Release, spelled_all}
 use Rattle.at_atp_frame.specs.Packets.{Packet}
-use Rattle.at_atp_responder.specs.Records.{Record, Taken, is_key, taken, finds_no_place, asked_for, answer_fault}
+use Rattle.at_atp_responder.specs.Records.{Record, Received, is_key, received, finds_no_place, asked_for, answer_fault}
 use Rattle.at_atp_responder.specs.Records.{after_answer}
 use Rattle.at_atp_frame.specs.declared.fault.AtpFault.{AtpFault}
 use Rattle.at_atp_frame.specs.declared.fault.AtpFault.TheVariants.{Full}
@@ -41,7 +41,7 @@ answer_called s a key packets = answered_with s a key packets (answer_fault a.se
 
 -- ---- packets
 
-abbrev pub service_taken : {A : Type 0} → Seat → TransactionState → Taken → Report A → Outcome A TransactionState
+abbrev pub service_taken : {A : Type 0} → Seat → TransactionState → Received → Report A → Outcome A TransactionState
 service_taken s a t r = record {
   report = r;
   state = record a { service_responder = t.after };
@@ -58,7 +58,7 @@ sent_by_reply rs key reply.Later = []
 sent_by_reply rs key (reply.Now packets) = asked_for (find (is_key key) rs) key packets
 
 -- a new request is delivered to the service, which answers it now or later
-abbrev pub handed_up : {A : Type 0} → Seat → TransactionState → Taken → Key → List ℕ → List ℕ → Reply A
+abbrev pub handed_up : {A : Type 0} → Seat → TransactionState → Received → Key → List ℕ → List ℕ → Reply A
     → Outcome A TransactionState
 handed_up s a t key user bytes r = record {
   report = report.Transactions (atp_report.Asked key user bytes);
@@ -66,7 +66,7 @@ handed_up s a t key user bytes r = record {
   out = sent_by (serving s.net s.number) atp_kind (spelled_all (sent_by_reply t.after key r));
 }
 
-abbrev pub at_service : {A : Type 0} → Seat → TransactionState → Taken → List ℕ → List ℕ → Reply A → Reception
+abbrev pub at_service : {A : Type 0} → Seat → TransactionState → Received → List ℕ → List ℕ → Reply A → Reception
     → Outcome A TransactionState
 at_service s a t user bytes said reception.Ignored = service_taken s a t report.Ignored
 at_service s a t user bytes said (reception.Again count) = service_taken s a t report.Again
@@ -78,11 +78,11 @@ abbrev pub service_asked : {A : Type 0} → Seat → TransactionState → Addres
     → Outcome A TransactionState
 service_asked s a from frame user bytes said =
     if finds_no_place a.service_responder from frame then idle a (refused_as (number_of Full))
-    else at_service s a (taken a.service_responder from frame) user bytes said
-    (taken a.service_responder from frame).reception
+    else at_service s a (received a.service_responder from frame) user bytes said
+    (received a.service_responder from frame).reception
 
 -- a release came for the service's socket
-abbrev pub service_released : {A : Type 0} → Seat → TransactionState → Taken → Outcome A TransactionState
+abbrev pub service_released : {A : Type 0} → Seat → TransactionState → Received → Outcome A TransactionState
 service_released s a t = service_taken s a t (released_report t.reception)
 
 -- what a packet does that came for the service's socket: a response is ignored
@@ -91,4 +91,4 @@ abbrev pub service_heard : {A : Type 0} → Reply A → Seat → TransactionStat
 service_heard said s a from (Request mask xo timer tid user bytes) =
     service_asked s a from (Request mask xo timer tid user bytes) user bytes said
 service_heard said s a from (Response place eom sts tid user bytes) = idle a report.Ignored
-service_heard said s a from (Release tid) = service_released s a (taken a.service_responder from (Release tid))
+service_heard said s a from (Release tid) = service_released s a (received a.service_responder from (Release tid))

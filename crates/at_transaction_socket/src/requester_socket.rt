@@ -12,7 +12,7 @@ ghost use Rattle.at_event.specs.Services.{is_asked};
 use crate::incoming::Incoming;
 use crate::refusals::refused;
 use crate::transaction_socket::{REQUESTER_SOCKET, TransactionSocket};
-use at_atp::{Frame, Requester, Step};
+use at_atp::{Frame, RequestProgress, Requester};
 use at_ddp::{ATP, Address, Datagrams, Outbox};
 use at_event::{Report, Seat, TransactionReport};
 use std::alloc::{AllocError, Allocator};
@@ -70,7 +70,7 @@ fn hear<A: Allocator + Copy>(
     own: Address,
     packet: &Incoming<'_>,
     out: &mut Datagrams<A>,
-) -> Result<Step<A>, AllocError>
+) -> Result<RequestProgress<A>, AllocError>
     ensures step { IfOk result
         (λ step. step ≡ (heard requester.old packet.now.from (content packet.now.frame)).step) }
     ensures state { IfOk result
@@ -91,15 +91,15 @@ fn hear<A: Allocator + Copy>(
 }
 
 // The report of a step of a transaction.
-fn reported_other<A: Allocator>(tid: u16, step: Step<A>) -> Report<A>
+fn reported_other<A: Allocator>(tid: u16, step: RequestProgress<A>) -> Report<A>
     ensures report { result ≡ reported_other tid step }
     ensures not_asked { is_asked result ≡ false }
 {
     match step {
-        Step::Ignored => Report::Ignored,
-        Step::Kept => Report::Transactions(TransactionReport::Kept),
-        Step::AskAgain => Report::Again,
-        Step::Finished(packets) => Report::Transactions(TransactionReport::Response {
+        RequestProgress::Ignored => Report::Ignored,
+        RequestProgress::Kept => Report::Transactions(TransactionReport::Kept),
+        RequestProgress::AskAgain => Report::Again,
+        RequestProgress::Finished(packets) => Report::Transactions(TransactionReport::Response {
             tid,
             packets,
         }),

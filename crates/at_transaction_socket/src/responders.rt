@@ -3,7 +3,8 @@ ghost use Rattle.std.specs.Prelude.{◌≡◌, ◌≢◌, ◌↔◌, ◌++◌, m
 ghost use Rattle.std.specs.Prelude.{OnErr, IsOk, IsErrOf, false};
 ghost use Rattle.at_ddp.specs.Protocols.{atp_kind};
 ghost use Rattle.at_atp_frame.specs.Frames.{content, spelled_all};
-ghost use Rattle.at_atp_responder.specs.Records.{taken, finds_no_place, after_answer, answer_fault, is_key, asked_for};
+ghost use Rattle.at_atp_responder.specs.Records.{after_answer, answer_fault, asked_for, finds_no_place, is_key};
+ghost use Rattle.at_atp_responder.specs.Records.{received};
 ghost use Rattle.at_event.specs.Outcomes.{posted, sent_by};
 ghost use Rattle.at_transaction_socket.specs.Responders.{is_release, released_report};
 ghost use Rattle.at_event.specs.Services.{is_asked};
@@ -23,15 +24,16 @@ pub fn hear<A: Allocator + Copy>(
     out: &mut Datagrams<A>,
 ) -> Result<Reception, AtpFault>
     ensures reception { IfOk result
-        (λ r. r ≡ (taken records.old packet.now.from (content packet.now.frame)).reception) }
-    ensures state { OnOk result (records.new ≡ (taken records.old packet.now.from (content packet.now.frame)).after) }
+        (λ r. r ≡ (received records.old packet.now.from (content packet.now.frame)).reception) }
+    ensures state { OnOk result
+        (records.new ≡ (received records.old packet.now.from (content packet.now.frame)).after) }
     ensures sent { OnOk result
         (out.new.items ≡ out.old.items ++ map posted
-        (sent_by own atp_kind (spelled_all (taken records.old packet.now.from (content packet.now.frame)).sent))) }
+        (sent_by own atp_kind (spelled_all (received records.old packet.now.from (content packet.now.frame)).sent))) }
     ensures full { IsErrOf result AtpFault.Full
         ↔ (finds_no_place records.old packet.now.from (content packet.now.frame) ≡ true) }
     ensures memory { IfErr result (λ fault. fault ≢ AtpFault.Full → fault ≡ AtpFault.NoMemory) }
-    ensures ignored { (taken records.old packet.now.from (content packet.now.frame)).reception ≡ Reception.Ignored
+    ensures ignored { (received records.old packet.now.from (content packet.now.frame)).reception ≡ Reception.Ignored
         → IsOk result }
     ensures unchanged { OnErr result (records.new ≡ records.old) }
     ensures nothing_sent { OnErr result (out.new.items ≡ out.old.items) }
@@ -78,10 +80,11 @@ pub fn release<A: Allocator + Copy>(
     out: &mut Datagrams<A>,
 ) -> Report<A>
     requires { is_release (content packet.now.frame) ≡ true }
-    ensures report { result ≡ released_report (taken records.old packet.now.from (content packet.now.frame)).reception }
-    ensures state { records.new ≡ (taken records.old packet.now.from (content packet.now.frame)).after }
+    ensures report { result
+        ≡ released_report (received records.old packet.now.from (content packet.now.frame)).reception }
+    ensures state { records.new ≡ (received records.old packet.now.from (content packet.now.frame)).after }
     ensures sent { out.new.items ≡ out.old.items ++ map posted
-        (sent_by own atp_kind (spelled_all (taken records.old packet.now.from (content packet.now.frame)).sent)) }
+        (sent_by own atp_kind (spelled_all (received records.old packet.now.from (content packet.now.frame)).sent)) }
     ensures not_asked { is_asked result ≡ false }
 {
     match hear(alloc, records, own, packet, out).unwrap() {

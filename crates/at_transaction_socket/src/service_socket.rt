@@ -10,7 +10,7 @@ ghost use Rattle.at_event.specs.Outcomes.{IsStep, posted, sent_by};
 ghost use Rattle.at_event.specs.Services.{Serves};
 ghost use Rattle.at_transaction_socket.specs.ServiceSocket.{answer_called, service_asked, service_heard};
 ghost use Rattle.at_transaction_socket.specs.ServiceSocket.{after_reply, sent_by_reply};
-ghost use Rattle.at_event.specs.declared.seat.Seat.{Seat as Place};
+ghost use Rattle.at_event.specs.declared.seat.Seat.{Seat as SeatOf};
 ghost use Rattle.at_event.specs.declared.service.Reply.{Reply as Said};
 
 use crate::incoming::Incoming;
@@ -108,7 +108,7 @@ fn give_request<A: Allocator + Copy, S: Service<A>>(
     out: &mut Datagrams<A>,
 ) -> Report<A>
     ensures { (said : Said A)
-        × ((s : Place) (a : TransactionState) → a.service_responder ≡ records.old → serving s.net s.number ≡ own →
+        × ((s : SeatOf) (a : TransactionState) → a.service_responder ≡ records.old → serving s.net s.number ≡ own →
         IsStep (service_asked s a packet.now.from (content packet.now.frame) user bytes.now said) a out.old.items result
         (record a { service_responder = records.new }) out.new.items)
         × Serves S.serves result said service.old service.new }

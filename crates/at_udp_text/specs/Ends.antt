@@ -19,10 +19,11 @@ use Rattle.at_drive_lines.specs.NodeLines.{IsFirstLineOf, NoneNames}
 use Rattle.at_drive_text.specs.Driven.{Driven}
 use Rattle.at_diagnostics.specs.Diagnostics.{TellsReason, TellsStop, TellsWrites, file_of}
 use Rattle.at_diagnostics.specs.Lines.{line_told}
-use Rattle.at_diagnostics.specs.Stops.{no_memory_line, stop_of, text_fault_line}
+use Rattle.at_diagnostics.specs.Stops.{stop_of, text_fault_line}
 use Rattle.at_diagnostics.specs.declared.diagnostics.Diagnostics.{Diagnostics}
 use Rattle.at_print.specs.Papers.{Page}
 use Rattle.at_print.specs.Printers.{Prints}
+use Rattle.at_print.specs.Refusals.{no_memory_line}
 use Rattle.at_print.specs.declared.printer.Printer.{Printer}
 use Rattle.at_print.specs.declared.status.Status.{Status}
 use Rattle.at_print.specs.declared.status.Status.TheVariants.{Failed}

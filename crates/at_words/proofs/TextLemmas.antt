@@ -81,15 +81,6 @@ too_few rest few b decoded =
     let two = two_digits (take 2 rest) b decoded in
     omega (arith, two, length-take 2 rest)
 
--- the first byte can't be seen
-pub not_graphic : (text rest : List ℕ) (first : ℕ) → text ≡ first ∷ rest → first ≢ 37 → is_ascii_graphic first ≡ false
-    → (byte : ℕ) (after : List ℕ) → ¬ SpellsFirst text byte after
-unfolding head_of
-not_graphic text rest first is other dark byte after spelled =
-    let said = without_percent text after byte (λ percent. other (ap head_of (sym is) ∙ percent)) spelled in
-    let same : first ≡ byte = ap head_of (sym is ∙ said.0) in
-    cc (sym dark ∙ ap is_ascii_graphic same ∙ said.1)
-
 pub nothing_spelled : (text : List ℕ) → text ≡ [] → (byte : ℕ) (after : List ℕ) → ¬ SpellsFirst text byte after
 nothing_spelled text none byte after (piece, is, inl (same, graphic, apart)) =
     cc (sym none ∙ is ∙ ap (λ l. l ++ after) same)

@@ -1,5 +1,5 @@
 //! Pairs of hexadecimal digits as bytes.
-ghost use Rattle.std.specs.Prelude.{◌≡◌, ◌<◌, ◌≤◌, ◌*◌, List, ℕ, length, true, false, None, Some, Ok};
+ghost use Rattle.std.specs.Prelude.{◌≡◌, ◌<◌, ◌*◌, List, ℕ, length, true, false, None, Some, Ok};
 ghost use Rattle.hex.specs.Hex.{decode_of, hex_digit_value};
 
 /// Puts the bytes that pairs of digits spell, in either case, into the room. False if there are not two digits for each

@@ -1,13 +1,9 @@
 -- A delivery: which datagram comes, why it is refused, and what it does.
-use Rattle.std.proofs.Common.{◌≡◌, ℕ, ◌≤◌, Bool, true, false, not, List, [], length, Option, Some, None, refl, sym}
+use Rattle.std.proofs.Common.{◌≡◌, ℕ, ◌≤◌, true, false, not, List, [], length, Option, Some, None, sym}
 use Rattle.std.proofs.Common.{ap, subst, ◌∙◌}
 use Rattle.std.proofs.lemmas.Option.{slice_get_past}
-use Rattle.std.specs.List.{position_from}
-use Rattle.std.specs.Option.{is_some}
-use Rattle.at_ddp.proofs.TableLemmas.{found_by, none_by}
-use Rattle.std.specs.Prelude.{slice_get, ◌==◌, ◌||◌, if◌then◌else◌, Result, Ok, Err, IfOk, IfErr}
+use Rattle.std.specs.Prelude.{slice_get, ◌==◌, ◌||◌, if◌then◌else◌}
 use Rattle.at_node.specs.Numbers.{Carries, DrawsHearing}
-use Rattle.at_node.specs.Nodes.{NodeState}
 use Rattle.at_node.specs.declared.numbers.Draw.{Draw}
 use Rattle.at_event.specs.declared.Report.{Report}
 use Rattle.at_world.specs.Draws.{Draws, last_of, is_no_later}
@@ -16,15 +12,13 @@ use Rattle.at_setup.specs.declared.event.Event.{Event}
 use Rattle.at_setup.specs.declared.event.Event.TheVariants as event
 use Rattle.at_setup.specs.declared.refusal.Refusal.{Refusal}
 use Rattle.at_setup.specs.declared.refusal.Refusal.TheVariants.{NoDatagram, NotForNode}
-use Rattle.at_setup.specs.declared.refusal.Fault.{Fault}
-use Rattle.at_setup.specs.declared.refusal.Fault.TheVariants as fault
+use Rattle.at_setup.specs.declared.refusal.EventFault.{EventFault}
+use Rattle.at_setup.specs.declared.refusal.EventFault.TheVariants as fault
 use Rattle.at_world.specs.Worlds.{WorldState, is_over, node_at, node_refusal, refusal, refusal_at, delivery_refusal}
-use Rattle.at_nodes.specs.Nodes.{is_numbered}
 use Rattle.at_world.specs.Worlds.{is_for, AreFree, IsTimely, IsPlayable, PlaysAt}
 use Rattle.at_nodes.specs.Taking.{Receives}
-use Rattle.at_world.specs.Worlds.{PlaysDelivery, IsFault}
+use Rattle.at_world.specs.Worlds.{PlaysDelivery}
 use Rattle.at_world.proofs.FreshLemmas.{IsFresh, drawn_before, fresh_of}
-use Rattle.at_world.proofs.WorldLemmas.{node_stands, none_stands, one_stands}
 
 pub refused_at : (A : Type 0) (w : WorldState) (e : Event A) (r : Option Refusal) → is_over w ≡ false → refusal_at w e
     ≡ r → refusal w e ≡ r

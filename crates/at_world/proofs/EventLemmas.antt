@@ -12,8 +12,8 @@ use Rattle.at_setup.specs.declared.event.Event.{Event}
 use Rattle.at_setup.specs.declared.event.Event.TheVariants as event
 use Rattle.at_setup.specs.declared.refusal.Refusal.{Refusal}
 use Rattle.at_setup.specs.declared.refusal.Refusal.TheVariants.{Limit, NoDatagram, NotForNode, Untimely}
-use Rattle.at_setup.specs.declared.refusal.Fault.{Fault}
-use Rattle.at_setup.specs.declared.refusal.Fault.TheVariants as fault
+use Rattle.at_setup.specs.declared.refusal.EventFault.{EventFault}
+use Rattle.at_setup.specs.declared.refusal.EventFault.TheVariants as fault
 use Rattle.at_world.specs.Worlds.{WorldState, is_over, AreFree, IsPlayable, IsNotTaken, IsFault, IsTimely, Plays}
 use Rattle.at_nodes.specs.Taking.{Takes}
 use Rattle.at_world.specs.Worlds.{PlaysAt, PlaysDelivery, node_at, node_refusal, refusal}
@@ -21,7 +21,7 @@ use Rattle.at_world.proofs.DeliveryLemmas.{refused_at}
 use Rattle.at_world.proofs.WorldLemmas.{one_stands}
 
 -- why a node did not take what an event brings it is why the event was not played
-not_taken : (A : Type 0) (w w' : WorldState) (e : Event A) (k : ℕ) (i : Input A) (answer : Result (Report A) Fault)
+not_taken : (A : Type 0) (w w' : WorldState) (e : Event A) (k : ℕ) (i : Input A) (answer : Result (Report A) EventFault)
     → ((r : Option Refusal) → node_refusal (node_at w k) ≡ r → refusal w e ≡ r)
     → (AreFree w.nodes k (λ n x. DrawsFor n i x) → IsTimely w e)
     → (IsTimely w e → AreFree w.nodes k (λ n x. DrawsFor n i x))
@@ -39,13 +39,13 @@ not_taken A w w' e k i (Err (fault.Refused Untimely)) refused timely free p =
 idle_timely : (A : Type 0) (w : WorldState) (k : ℕ) (time : Timer) → IsTimely {A = A} w (event.Timer k time)
 idle_timely A w k time = record { fresh = λ s there. absurd there; free = λ n here draw came. absurd came.1 }
 
-module _ (A : Type 0) (w w' : WorldState) (e : Event A) (k : ℕ) (time : Timer) (answer : Result (Report A) Fault)
+module _ (A : Type 0) (w w' : WorldState) (e : Event A) (k : ℕ) (time : Timer) (answer : Result (Report A) EventFault)
     (is : e ≡ event.Timer k time) (runs : is_over w ≡ false) where
   pub fired : IfOk answer (λ r. PlaysAt w k (Takes {A = A} (input.Timer time)) r w')
       → IfOk answer (λ r. IsPlayable w e × Plays w e r w')
   fired h = subst (λ x. IfOk answer (λ r. IsPlayable w x × Plays w x r w')) (sym is) (go answer h)
     where
-      go : (a : Result (Report A) Fault) → IfOk a (λ r. PlaysAt w k (Takes {A = A} (input.Timer time)) r w')
+      go : (a : Result (Report A) EventFault) → IfOk a (λ r. PlaysAt w k (Takes {A = A} (input.Timer time)) r w')
           → IfOk a (λ r. IsPlayable {A = A} w (event.Timer k time) × Plays w (event.Timer k time) r w')
       go (Err f) p = tt
       go (Ok r) p = (
@@ -66,7 +66,7 @@ module _ (A : Type 0) (w w' : WorldState) (e : Event A) (k : ℕ) (time : Timer)
 
 -- a call draws a number only if it is free
 module _ (A : Type 0) (w w' : WorldState) (e : Event A) (k : ℕ) (call : Call A) (lent : Bor (Call A))
-    (answer : Result (Report A) Fault) (is : e ≡ event.Call k call) (same : lent.now ≡ call)
+    (answer : Result (Report A) EventFault) (is : e ≡ event.Call k call) (same : lent.now ≡ call)
     (runs : is_over w ≡ false) where
   pub called_by : IfOk answer (λ r. PlaysAt w k (Takes {A = A} (input.Call lent)) r w')
       → IfOk answer (λ r. AreFree w.nodes k (λ n x. DrawsFor n (input.Call lent) x)) → IsCall call
@@ -75,7 +75,7 @@ module _ (A : Type 0) (w w' : WorldState) (e : Event A) (k : ℕ) (call : Call A
       (subst (λ (x : Call A). IfOk answer (λ r. IsPlayable w (event.Call k x) × Plays w (event.Call k x) r w')) same
       (go answer h free (subst (λ (x : Call A). IsCall x) (sym same) range)))
     where
-      go : (a : Result (Report A) Fault) → IfOk a (λ r. PlaysAt w k (Takes {A = A} (input.Call lent)) r w')
+      go : (a : Result (Report A) EventFault) → IfOk a (λ r. PlaysAt w k (Takes {A = A} (input.Call lent)) r w')
           → IfOk a (λ r. AreFree w.nodes k (λ n x. DrawsFor n (input.Call lent) x)) → IsCall lent.now
           → IfOk a (λ r. IsPlayable {A = A} w (event.Call k lent.now) × Plays w (event.Call k lent.now) r w')
       go (Err f) p q range' = tt
@@ -98,7 +98,7 @@ module _ (A : Type 0) (w w' : WorldState) (e : Event A) (k : ℕ) (call : Call A
 
 -- bytes that no node sent draw a number only if it is free
 module _ (A : Type 0) (w w' : WorldState) (k : ℕ) (bytes : List ℕ) (lent : Bor (List ℕ))
-    (answer : Result (Report A) Fault) (same : lent.now ≡ bytes) (runs : is_over w ≡ false) where
+    (answer : Result (Report A) EventFault) (same : lent.now ≡ bytes) (runs : is_over w ≡ false) where
   pub forged : IfOk answer (λ r. PlaysAt w k (Takes {A = A} (input.Received lent)) r w')
       → IfOk answer (λ r. AreFree w.nodes k (λ n x. DrawsFor {A = A} n (input.Received lent) x))
       → IfOk answer (λ r. IsPlayable {A = A} w (event.Forge k bytes) × Plays {A = A} w (event.Forge k bytes) r w')
@@ -106,7 +106,7 @@ module _ (A : Type 0) (w w' : WorldState) (k : ℕ) (bytes : List ℕ) (lent : B
       subst (λ x. IfOk answer (λ r. IsPlayable {A = A} w (event.Forge k x) × Plays w (event.Forge k x) r w')) same
       (go answer h free)
     where
-      go : (a : Result (Report A) Fault) → IfOk a (λ r. PlaysAt w k (Takes {A = A} (input.Received lent)) r w')
+      go : (a : Result (Report A) EventFault) → IfOk a (λ r. PlaysAt w k (Takes {A = A} (input.Received lent)) r w')
           → IfOk a (λ r. AreFree w.nodes k (λ n x. DrawsFor {A = A} n (input.Received lent) x))
           → IfOk a (λ r. IsPlayable {A = A} w (event.Forge k lent.now) × Plays w (event.Forge k lent.now) r w')
       go (Err f) p q = tt
@@ -128,7 +128,7 @@ module _ (A : Type 0) (w w' : WorldState) (k : ℕ) (bytes : List ℕ) (lent : B
 
 -- the same of bytes that an event holds
 module _ (A : Type 0) (w w' : WorldState) (e : Event A) (k : ℕ) (bytes given : List ℕ)
-    (answer : Result (Report A) Fault) (is : e ≡ event.Forge k bytes) (same : given ≡ bytes) where
+    (answer : Result (Report A) EventFault) (is : e ≡ event.Forge k bytes) (same : given ≡ bytes) where
   pub brought : IfOk answer (λ r. IsPlayable {A = A} w (event.Forge k given)
       × Plays {A = A} w (event.Forge k given) r w') → IfOk answer (λ r. IsPlayable w e × Plays w e r w')
   brought h = subst (λ x. IfOk answer (λ r. IsPlayable w x × Plays w x r w'))
@@ -138,7 +138,7 @@ module _ (A : Type 0) (w w' : WorldState) (e : Event A) (k : ℕ) (bytes given :
       → IfErr answer (λ f. IsFault w e f w')
   not_brought h = subst (λ x. IfErr answer (λ f. IsFault w x f w')) (ap (λ x. event.Forge k x) same ∙ sym is) h
 
-module _ (A : Type 0) (w w' : WorldState) (e : Event A) (which k : ℕ) (answer : Result (Report A) Fault)
+module _ (A : Type 0) (w w' : WorldState) (e : Event A) (which k : ℕ) (answer : Result (Report A) EventFault)
     (is : e ≡ event.Deliver which k) where
   pub came : IfOk answer (λ r. IsPlayable {A = A} w (event.Deliver which k) × PlaysDelivery w which k r w')
       → IfOk answer (λ r. IsPlayable w e × Plays w e r w')

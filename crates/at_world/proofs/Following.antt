@@ -7,8 +7,8 @@ use Rattle.std.specs.Prelude.{false, slice_get}
 use Rattle.at_event.specs.declared.Report.{Report}
 use Rattle.at_setup.specs.declared.event.Event.{Event}
 use Rattle.at_setup.specs.declared.event.Event.TheVariants as event
-use Rattle.at_setup.specs.declared.refusal.Fault.{Fault}
-use Rattle.at_setup.specs.declared.refusal.Fault.TheVariants.{Refused, NoMemory}
+use Rattle.at_setup.specs.declared.refusal.EventFault.{EventFault}
+use Rattle.at_setup.specs.declared.refusal.EventFault.TheVariants.{Refused, NoMemory}
 use Rattle.at_world.specs.Worlds.{WorldState, IsPlayable, Plays, IsFault}
 use Rattle.at_world.specs.Plays.{Follows, StopsAt}
 
@@ -30,7 +30,7 @@ follows_more A w es i e rs mid r w' within is h fine plays =
     (one_more A w (take i es) rs mid e r w' h fine plays)
 
 -- if the world's step did not play an event, the play stops there
-pub stops : (A : Type 0) (w : WorldState) (es : List (Event A)) (i : ℕ) (e : Event A) (f : Fault) (w' : WorldState)
+pub stops : (A : Type 0) (w : WorldState) (es : List (Event A)) (i : ℕ) (e : Event A) (f : EventFault) (w' : WorldState)
     → w.failed ≡ false → i < length es → e ≡ get_or es i e → IsFault w e f w'
     → StopsAt w (slice_get es i) f i × (w'.sent ≡ w.sent)
 stops A w es i e (Refused r) w' whole within is h =

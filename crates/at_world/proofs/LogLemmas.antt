@@ -1,5 +1,5 @@
 -- What a log says of an event that is recorded, or for which memory ran out.
-use Rattle.std.proofs.Common.{◌≡◌, ◌∙◌, ap, Bool, true, false, List}
+use Rattle.std.proofs.Common.{◌≡◌, Bool, true, false, List}
 use Rattle.std.specs.Prelude.{Result, Ok, Err, OnErr, OnOk}
 use Rattle.std.specs.Result.{is_err}
 use Rattle.std.specs.declared.alloc.AllocError.{AllocError}

@@ -22,7 +22,7 @@ use Rattle.at_setup.specs.declared.setup.Setup.{Setup}
 use Rattle.at_world.specs.Machine.AtpGuards as atp_guards
 use Rattle.at_world.specs.Cables as cables
 use Rattle.at_world.specs.Events.{act_of, node_of}
-use Rattle.at_world.specs.Machine.{Machine, Step, opening_machine}
+use Rattle.at_world.specs.Machine.{Machine, MachineStep, opening_machine}
 use Rattle.at_world.specs.Machine.NameGuards as name_guards
 use Rattle.at_world.specs.Plays.{opening_world}
 use Rattle.at_world.specs.Sents.{SentDatagram}
@@ -102,7 +102,7 @@ tied_at_opening A s setups laws ok =
 
 -- the machine may answer an event so, and is tied to the world after it
 abbrev pub Follow : (A : Type 0) (w : WorldState) (m : Machine) → Tied A w m → Event A → Report A → WorldState → Type 0
-Follow A w m t e r w' = (m' : Machine) × Step m e r m' × (now : Tied A w' m')
+Follow A w m t e r w' = (m' : Machine) × MachineStep m e r m' × (now : Tied A w' m')
     × Grown A m.cable m.atp (t.atp).history (now.atp).history e r m'.atp × (m'.cable ≡ m.cable)
 
 module _ (A : Type 0) (w : WorldState) (m : Machine) (t : Tied A w m) (e : Event A) (n : NodeState)
@@ -150,9 +150,9 @@ module _ (A : Type 0) (w : WorldState) (m : Machine) (t : Tied A w m) (e : Event
         asked.passed A laws.atp w m.cable m.atp t.cable t.atp e n stands (idle n NoMemory) refl
             (record { same = refl; sends = tt; reports = refl; said = tt }),
         named.passed A laws.names w m.cable m.sessions m.names t.cable t.sessions t.names e n stands
-            (idle n NoMemory) refl (record { same = refl; sends = tt; reports = refl }),
+            (idle n NoMemory) refl (record { same = refl; sends = tt; reports = refl; said = tt }),
         streamed.passed A laws.streams w m.cable m.sessions m.streams t.cable t.sessions t.streams runs e n stands
-            (idle n NoMemory) refl (record { same = refl; sends = tt; reports = refl }),
+            (idle n NoMemory) refl (record { same = refl; sends = tt; reports = refl; said = tt }),
         told.good_next A w m.cable m.sessions e n (idle n NoMemory) t.sessions stands seat.number
             (told.nothing_steps A n.session (act_of e)) its.fits,
       )

@@ -20,9 +20,9 @@ use Rattle.at_node.specs.Nodes.{NodeState, called, timed}
 use Rattle.at_setup.specs.declared.event.Event.{Event}
 use Rattle.at_setup.specs.declared.event.Event.TheVariants as event
 use Rattle.at_atp_frame.specs.declared.fault.AtpFault.TheVariants.{Full}
-use Rattle.at_steps.specs.Safety.{IsPlaceOf, IsPlaceOfCall, IsReason, IsSafe as IsSafeOutcome, IsTrueOf}
+use Rattle.at_steps.specs.Safety.{IsTableOf, IsTableOfCall, IsReason, IsSafe as IsSafeOutcome, IsTrueOf}
 use Rattle.at_event.specs.declared.Reason.TheVariants.{OfTransactions}
-use Rattle.at_steps.specs.Safety.{Place, number_told}
+use Rattle.at_steps.specs.Safety.{TransactionTable, number_told}
 use Rattle.at_event.specs.declared.Reason.{Reason}
 use Rattle.at_world.specs.Draws.{noted}
 use Rattle.at_world.specs.Events.{node_of}
@@ -33,26 +33,27 @@ use Rattle.at_nodes.specs.Taking.{Receives}
 use Rattle.at_nodes.specs.Nodes.{is_numbered}
 use Rattle.at_world.specs.Worlds.{WorldState, IsPlayable, Plays, PlaysAt, is_over, node_at}
 use Rattle.at_world.specs.Worlds.{recorded}
-use Rattle.at_setup.specs.declared.refusal.Fault.{Fault}
+use Rattle.at_setup.specs.declared.refusal.EventFault.{EventFault}
 use Rattle.at_world.proofs.Runs.{still_runs}
 
 -- what the layer below promises of each event of a node
 pub record SafetyLaws (A : Type 0) : Type 0 where
-  pub call : (n : NodeState) (call : Call A) → IsWithin n → IsSafeOutcome IsPlaceOfCall n n (called n call)
-  pub timer : (n : NodeState) (time : Timer) → IsWithin n → IsSafeOutcome {A = A} IsPlaceOfCall n n (timed n time)
+  pub call : (n : NodeState) (call : Call A) → IsWithin n → IsSafeOutcome IsTableOfCall n n (called n call)
+  pub timer : (n : NodeState) (time : Timer) → IsWithin n → IsSafeOutcome {A = A} IsTableOfCall n n (timed n time)
   pub datagram : (n : NodeState) (said : Reply A) (bytes : List ℕ) (o : Outcome A NodeState) → IsWithin n
-      → Hears said n bytes o → IsSafeOutcome (IsPlaceOf bytes) n n o
+      → Hears said n bytes o → IsSafeOutcome (IsTableOf bytes) n n o
 
 -- ---- a node's step
 
-pub record IsSafeHere {A : Type 0} (P : Place → Type 0) (n : NodeState) (r : Report A) (after : NodeState)
+pub record IsSafeHere {A : Type 0} (P : TransactionTable → Type 0) (n : NodeState) (r : Report A) (after : NodeState)
     (out : List Posted) : Type 0 where
   pub memory : r ≡ report.NoMemory → (after ≡ n) × (out ≡ [])
   pub refused : (number : ℕ) → r ≡ report.Refused number → (after ≡ n) × (out ≡ [])
   pub told : (number : ℕ) → number_told r ≡ Some number → IsReason P n number
   pub few : length out ≤ 131070
 
-module _ (A : Type 0) (P : Place → Type 0) (n : NodeState) (r : Report A) (after : NodeState) (out : List Posted) where
+module _ (A : Type 0) (P : TransactionTable → Type 0) (n : NodeState) (r : Report A) (after : NodeState)
+    (out : List Posted) where
   -- an outcome that is safe
   of_outcome : (o : Outcome A NodeState) → IsSafeOutcome P n n o → (r ≡ report.NoMemory → ⊥)
       → (r ≡ o.report) × (after ≡ o.state) × (out ≡ map posted o.out) → IsSafeHere P n r after out
@@ -66,7 +67,7 @@ module _ (A : Type 0) (P : Place → Type 0) (n : NodeState) (r : Report A) (aft
     few = subst (λ x. length x ≤ 131070) (sym l.2) (omega (arith, safe.few, length-map o.out posted));
   }
 
-nothing : (A : Type 0) (P : Place → Type 0) (n after : NodeState) (out : List Posted) → after ≡ n → out ≡ []
+nothing : (A : Type 0) (P : TransactionTable → Type 0) (n after : NodeState) (out : List Posted) → after ≡ n → out ≡ []
     → IsSafeHere {A = A} P n report.NoMemory after out
 nothing A P n after out same none = record {
   memory = λ is. (same, none);
@@ -76,32 +77,36 @@ nothing A P n after out same none = record {
 }
 
 -- a step of a call or a timer
-of_step : (A : Type 0) (P : Place → Type 0) (n : NodeState) (o : Outcome A NodeState) (r : Report A) (after : NodeState)
+of_step : (A : Type 0) (P : TransactionTable → Type 0) (n : NodeState) (o : Outcome A NodeState) (r : Report A)
+    (after : NodeState)
     (out : List Posted) → IsSafeOutcome P n n o → IsStep o n [] r after out → IsSafeHere P n r after out
 of_step A P n o report.NoMemory after out safe h = nothing A P n after out h.0 h.1
 of_step A P n o r after out safe h = of_outcome A P n r after out o safe (λ is. cc) h
 
 -- a step over received bytes
-of_coming : (A : Type 0) (P : Place → Type 0) (n : NodeState) (May : Outcome A NodeState → Type 0) (r : Report A)
+of_coming : (A : Type 0) (P : TransactionTable → Type 0) (n : NodeState) (May : Outcome A NodeState
+    → Type 0) (r : Report A)
     (after : NodeState) (out : List Posted) → ((o : Outcome A NodeState) → May o → IsSafeOutcome P n n o)
     → Comes May n [] r after out → IsSafeHere P n r after out
 of_coming A P n May report.NoMemory after out safe h = nothing A P n after out h.0 h.1
 of_coming A P n May r after out safe h = of_outcome A P n r after out h.0 (safe h.0 h.1) (λ is. cc) h.2
 
 of_receiving : (A : Type 0) → SafetyLaws A → (n : NodeState) (bytes : List ℕ) (r : Report A) (after : NodeState)
-    (out : List Posted) → IsWithin n → Receives bytes n [] r after out → IsSafeHere (IsPlaceOf bytes) n r after out
+    (out : List Posted) → IsWithin n → Receives bytes n [] r after out → IsSafeHere (IsTableOf bytes) n r after out
 of_receiving A laws n bytes r after out within h =
-    of_coming A (IsPlaceOf bytes) n (Hears h.0 n bytes) r after out
+    of_coming A (IsTableOf bytes) n (Hears h.0 n bytes) r after out
     (λ o hears. laws.datagram n h.0 bytes o within hears) h.1
 
 -- the places that a step may want are such that the event may want
-full_there : (P Q : Place → Type 0) (n : NodeState) → ((place : Place) → P place → Q place) → (why : Reason)
+full_there : (P Q : TransactionTable → Type 0) (n : NodeState) → ((place : TransactionTable) → P place → Q place)
+    → (why : Reason)
     → IsTrueOf P n why → IsTrueOf Q n why
 full_there P Q n more (OfTransactions Full) h = (h.0, more h.0 h.1, h.2)
 full_there P Q n more why h = h
 
-of_event : (A : Type 0) (P Q : Place → Type 0) (n : NodeState) (r : Report A) (after : NodeState) (out : List Posted)
-    → ((place : Place) → P place → Q place) → IsSafeHere P n r after out → IsSafeHere Q n r after out
+of_event : (A : Type 0) (P Q : TransactionTable → Type 0) (n : NodeState) (r : Report A) (after : NodeState)
+    (out : List Posted)
+    → ((place : TransactionTable) → P place → Q place) → IsSafeHere P n r after out → IsSafeHere Q n r after out
 of_event A P Q n r after out more safe = record {
   memory = safe.memory;
   refused = safe.refused;
@@ -202,18 +207,18 @@ pub step_safe : (A : Type 0) → SafetyLaws A → (w : WorldState) (e : Event A)
 step_safe A laws w (event.Call k call) r w' playable p before all =
     let e : Event A = event.Call k call in
     of_playing A w e r w' (still_runs {A = A} w e playable.allowed) all _ p.0
-    (λ n after out stands steps. of_step A IsPlaceOfCall n (called n call) r after out
+    (λ n after out stands steps. of_step A IsTableOfCall n (called n call) r after out
     (laws.call n call (one_within k n w.nodes before stands)) steps)
 step_safe A laws w (event.Timer k time) r w' playable p before all =
     let e : Event A = event.Timer k time in
     of_playing A w e r w' (still_runs {A = A} w e playable.allowed) all _ p
-    (λ n after out stands steps. of_step A IsPlaceOfCall n (timed n time) r after out
+    (λ n after out stands steps. of_step A IsTableOfCall n (timed n time) r after out
     (laws.timer n time (one_within k n w.nodes before stands)) steps)
 step_safe A laws w (event.Deliver which k) r w' playable d before all =
     let e : Event A = event.Deliver which k in
     let bytes = (d.datagram).bytes in
     of_playing A w e r w' (still_runs {A = A} w e playable.allowed) all _ d.plays
-    (λ n after out stands steps. of_event A (IsPlaceOf bytes) (Wants w e) n r after out
+    (λ n after out stands steps. of_event A (IsTableOf bytes) (Wants w e) n r after out
     (λ place at. (d.datagram, d.was_sent, at))
     (of_receiving A laws n bytes r after out (one_within k n w.nodes before stands) steps))
 step_safe A laws w (event.Forge k bytes) r w' playable p before all =
@@ -223,7 +228,7 @@ step_safe A laws w (event.Forge k bytes) r w' playable p before all =
 
 -- whatever the step answers
 pub all_safe : (A : Type 0) → SafetyLaws A → (w : WorldState) (e : Event A) (w' : WorldState)
-    (answer : Result (Report A) Fault) → IfOk answer (λ r. IsPlayable w e × Plays w e r w') → AreWithin w.nodes
+    (answer : Result (Report A) EventFault) → IfOk answer (λ r. IsPlayable w e × Plays w e r w') → AreWithin w.nodes
     → AreWithin w'.nodes → IfOk answer (λ r. IsSafe w e r w')
 all_safe A laws w e w' (Err f) p before after = tt
 all_safe A laws w e w' (Ok r) p before after = step_safe A laws w e r w' p.0 p.1 before after

@@ -20,7 +20,7 @@ use Rattle.at_steps.specs.AtpSteps.{page_answer}
 use Rattle.at_stream_socket.specs.Sockets.{streams_at}
 use Rattle.at_zip.specs.Request.{RequestSpells, request_user}
 use Rattle.at_zip.specs.Tables.{table_of}
-use Rattle.at_zip.specs.declared.request.Which.{Which}
+use Rattle.at_zip.specs.declared.request.TableChoice.{TableChoice}
 use Rattle.at_world.specs.Machine.AtpGuards.{AtpMachine}
 use Rattle.at_world.specs.Events.{NoForge}
 use Rattle.at_world.specs.Machine.{Machine, Run, opening_machine}
@@ -47,7 +47,7 @@ on_wire (ForService user bytes) = record { user = user; data_ = bytes }
 -- moment's table, from a place on (Inside AppleTalk, ZIP, "GetZoneList", "GetLocalZones").
 pub record ServesItsPage (net node : ℕ) (m m' : AtpMachine) (requester : Address) (tid : ℕ) : Type 0 where
   pub asked : Asked m.asked requester tid (zones_at net node)
-  pub which : Which
+  pub which : TableChoice
   pub start : ℕ
   pub asks_from : RequestSpells (on_wire (asked.transaction).asks).user which start
   pub becomes : m'.asked ≡ answered m.asked requester tid (page_answer (table_of which m.tables) start)

@@ -25,6 +25,6 @@ abbrev pub IsSaid : {A : Type 0} → Event A → Report A → Type 0
 IsSaid e r = acts.IsSaid (act_of e) r
 
 -- an event has a report that there is, and leaves the cable as it was
-pub record Step {A : Type 0} (c : Cable) (e : Event A) (r : Report A) (c' : Cable) : Type 0 where
+pub record CableStep {A : Type 0} (c : Cable) (e : Event A) (r : Report A) (c' : Cable) : Type 0 where
   pub said : IsSaid e r
   pub becomes : c' ≡ c

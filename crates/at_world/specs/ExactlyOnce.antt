@@ -13,7 +13,7 @@ use Rattle.at_atp_frame.specs.Packets.{Packet}
 use Rattle.at_atp_responder.specs.declared.reception.Key.{Key}
 use Rattle.at_transaction_socket.specs.TransactionSockets.{asking}
 use Rattle.at_zip.specs.Tables.{Tables, table_of}
-use Rattle.at_zip.specs.declared.request.Which.{Which}
+use Rattle.at_zip.specs.declared.request.TableChoice.{TableChoice}
 use Rattle.at_event.specs.declared.Call.TheVariants.{Transactions}
 use Rattle.at_event.specs.declared.transactions.TransactionCall.TheVariants.{Ask, Answer}
 use Rattle.at_event.specs.declared.Timer.TheVariants as timer
@@ -100,7 +100,7 @@ IsGiven sent key e r = ⊥
 pub record IsPageFor (sent : List SentDatagram) (tables : Tables) (which : ℕ) (key : Key) (answer : List Packet)
     : Type 0 where
   pub came : CameFrom sent which key
-  pub table : Which
+  pub table : TableChoice
   pub start : ℕ
   pub asks_from : AsksFrom came.packet table start
   pub page : answer ≡ page_answer (table_of table tables) start

@@ -40,17 +40,17 @@ opening_machine s = record {
 }
 
 -- one step: of the cable, of each part, by whose report it is, and of the session of the node's user
-pub record Step {A : Type 0} (m : Machine) (e : Event A) (r : Report A) (m' : Machine) : Type 0 where
-  pub cable : cables.Step m.cable e r m'.cable
+pub record MachineStep {A : Type 0} (m : Machine) (e : Event A) (r : Report A) (m' : Machine) : Type 0 where
+  pub cable : cables.CableStep m.cable e r m'.cable
   pub atp : atp.StepBy m.cable m.atp e r m'.atp (reporter_of r)
   pub names : names.StepBy m.sessions m.names e r m'.names (reporter_of r)
   pub streams : streams.StepBy m.cable m.sessions m.streams e r m'.streams (reporter_of r)
-  pub sessions : sessions.Step m.sessions e r m'.sessions
+  pub sessions : sessions.SessionStep m.sessions e r m'.sessions
 
 -- the machine may give these reports to these events, one step after another
 abbrev pub Run : {A : Type 0} → Machine → List (Event A) → List (Report A) → Machine → Type 0
 Run m [] [] m' = m' ≡ m
-Run m (e ∷ es) (r ∷ rs) m' = (mid : Machine) × Step m e r mid × Run mid es rs m'
+Run m (e ∷ es) (r ∷ rs) m' = (mid : Machine) × MachineStep m e r mid × Run mid es rs m'
 Run m [] (r ∷ rs) m' = ⊥
 Run m (e ∷ es) [] m' = ⊥
 

@@ -4,8 +4,8 @@ use Rattle.std.specs.Prelude.{◌⊎◌, Option, Some, Result, Ok, Err}
 use Rattle.at_event.specs.declared.Report.{Report}
 use Rattle.at_nodes.specs.Openings.{opening_node}
 use Rattle.at_setup.specs.declared.event.Event.{Event}
-use Rattle.at_setup.specs.declared.refusal.Fault.{Fault}
-use Rattle.at_setup.specs.declared.refusal.Fault.TheVariants as fault
+use Rattle.at_setup.specs.declared.refusal.EventFault.{EventFault}
+use Rattle.at_setup.specs.declared.refusal.EventFault.TheVariants as fault
 use Rattle.at_setup.specs.declared.setup.Setup.{Setup}
 use Rattle.at_world.specs.declared.transcript.Transcript.{Transcript}
 use Rattle.at_world.specs.declared.transcript.PlayFault.{PlayFault}
@@ -25,7 +25,7 @@ Follows w (e ∷ es) [] w' = ⊥
 
 -- Why a play stopped. The next event is refused so, or memory ran out: at a next event that nothing refuses, or before
 -- the first.
-abbrev pub StopsAt : {A : Type 0} → WorldState → Option (Event A) → Fault → ℕ → Type 0
+abbrev pub StopsAt : {A : Type 0} → WorldState → Option (Event A) → EventFault → ℕ → Type 0
 StopsAt {A} w next (fault.Refused r) at = (e : Event A) × (next ≡ Some e) × Refuses w e r
 StopsAt {A} w next fault.NoMemory at = ((e : Event A) × (next ≡ Some e) × IsPlayable w e) ⊎ (at ≡ 0)
 

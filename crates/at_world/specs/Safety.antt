@@ -7,7 +7,7 @@ use Rattle.at_node.specs.Nodes.{NodeState}
 use Rattle.at_setup.specs.declared.event.Event.{Event}
 use Rattle.at_setup.specs.declared.event.Event.TheVariants as event
 use Rattle.at_setup.specs.declared.setup.Setup.{Setup}
-use Rattle.at_steps.specs.Safety.{IsPlaceOf, IsPlaceOfCall, IsReason, Place, number_told}
+use Rattle.at_steps.specs.Safety.{IsTableOf, IsTableOfCall, IsReason, TransactionTable, number_told}
 use Rattle.at_nodes.specs.Nodes.{AreWithin}
 use Rattle.at_world.specs.Events.{node_of}
 use Rattle.at_world.specs.Plays.{opening_world}
@@ -34,11 +34,11 @@ pub record HasNoEffect (w w' : WorldState) : Type 0 where
   pub last : w'.last ≡ w.last
 
 -- the event may want a place for a transaction there
-abbrev pub Wants : {A : Type 0} → WorldState → Event A → Place → Type 0
-Wants w (event.Deliver which node) place =
-    (s : SentDatagram) × (slice_get w.sent which ≡ Some s) × IsPlaceOf s.bytes place
-Wants w (event.Forge node bytes) place = IsPlaceOf bytes place
-Wants w e place = IsPlaceOfCall place
+abbrev pub Wants : {A : Type 0} → WorldState → Event A → TransactionTable → Type 0
+Wants w (event.Deliver which node) table =
+    (s : SentDatagram) × (slice_get w.sent which ≡ Some s) × IsTableOf s.bytes table
+Wants w (event.Forge node bytes) table = IsTableOf bytes table
+Wants w e table = IsTableOfCall table
 
 -- A node told this number. It is that of a fault, and if the fault is a full table, the table is full.
 pub record IsTold {A : Type 0} (w : WorldState) (e : Event A) (number : ℕ) : Type 0 where

@@ -6,13 +6,13 @@ use Rattle.at_ddp.specs.Address.{same_address}
 use Rattle.at_ddp.specs.declared.address.Address.{Address}
 use Rattle.at_atp_frame.specs.Packets.{Packet}
 use Rattle.at_zip.specs.Reading.{place_after}
-use Rattle.at_zip.specs.declared.request.Which.{Which}
+use Rattle.at_zip.specs.declared.request.TableChoice.{TableChoice}
 use Rattle.at_transaction_socket.specs.TransactionSockets.{asking}
 
 -- What a transaction asks for: the page of a zone table from a place on, of which the first is 1; or what a node's user
 -- asks of a service, by the user bytes and the data of its call.
 pub data Asks : Type 0 where
-  ForPage : (which : Which) (start : ℕ) → Asks
+  ForPage : (which : TableChoice) (start : ℕ) → Asks
   ForService : (user bytes : List ℕ) → Asks
 
 -- One transaction from its beginning on: who asks whom, for what, and under which number. It has the number of packets
@@ -32,7 +32,7 @@ new_transaction from tid to asks wanted xo =
     record { requester = from; tid = tid; responder = to; asks = asks; wanted = wanted; xo = xo; answers = [] }
 
 -- a node asks for the page of a table after these names: one packet, at least once
-abbrev pub page_asked : ℕ → ℕ → Address → Which → List (List ℕ) → ℕ → Transaction
+abbrev pub page_asked : ℕ → ℕ → Address → TableChoice → List (List ℕ) → ℕ → Transaction
 page_asked net node server which names tid =
     new_transaction (asking net node) tid server (ForPage which (place_after names)) 1 false
 

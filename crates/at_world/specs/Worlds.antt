@@ -21,8 +21,8 @@ use Rattle.at_setup.specs.declared.event.Event.{Event}
 use Rattle.at_setup.specs.declared.event.Event.TheVariants as event
 use Rattle.at_setup.specs.declared.refusal.Refusal.{Refusal}
 use Rattle.at_setup.specs.declared.refusal.Refusal.TheVariants as refusals
-use Rattle.at_setup.specs.declared.refusal.Fault.{Fault}
-use Rattle.at_setup.specs.declared.refusal.Fault.TheVariants as fault
+use Rattle.at_setup.specs.declared.refusal.EventFault.{EventFault}
+use Rattle.at_setup.specs.declared.refusal.EventFault.TheVariants as fault
 
 pub record WorldState : Type 0 where
   pub nodes : List NodeState
@@ -148,12 +148,12 @@ Plays w (event.Timer k timer) r w' = PlaysAt w k (λ n. IsStep (timed n timer) n
 Plays w (event.Forge k bytes) r w' = PlaysAt w k (Receives bytes) r w'
 
 -- Why an event was not played. A world that had not failed is out of memory only if nothing else refuses the event.
-abbrev pub IsFault : {A : Type 0} → WorldState → Event A → Fault → WorldState → Type 0
+abbrev pub IsFault : {A : Type 0} → WorldState → Event A → EventFault → WorldState → Type 0
 IsFault w e (fault.Refused r) w' = Refuses w e r × (w' ≡ w)
 IsFault w e fault.NoMemory w' = (w'.failed ≡ true) × (w'.sent ≡ w.sent) × (w.failed ≡ false → IsPlayable w e)
 
 -- why a node did not take an input
-abbrev pub IsNotTaken : {A : Type 0} → WorldState → ℕ → Input A → Fault → WorldState → Type 0
+abbrev pub IsNotTaken : {A : Type 0} → WorldState → ℕ → Input A → EventFault → WorldState → Type 0
 IsNotTaken w k i (fault.Refused refusals.Untimely) w' =
     (node_refusal (node_at w k) ≡ None) × (¬ AreFree w.nodes k (λ n draw. DrawsFor n i draw)) × (w' ≡ w)
 IsNotTaken w k i (fault.Refused r) w' = (node_refusal (node_at w k) ≡ Some r) × (w' ≡ w)

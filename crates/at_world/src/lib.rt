@@ -12,7 +12,7 @@ mod transcript;
 mod view;
 mod world;
 
-pub use at_setup::{Event, Fault, NodeSetup, Refusal, Setup};
+pub use at_setup::{Event, EventFault, NodeSetup, Refusal, Setup};
 pub use player::play;
 pub use sent::{Sent, SentList};
 pub use transcript::{PlayFault, Transcript};

@@ -13,7 +13,7 @@ use crate::transcript::{PlayFault, Transcript};
 use crate::world::World;
 use at_ddp::Listed;
 use at_node::Report;
-use at_setup::{Event, Fault, Setup};
+use at_setup::{Event, EventFault, Setup};
 use std::alloc::Allocator;
 
 /// Opens a world and plays events up to the first that is refused.
@@ -64,13 +64,13 @@ fn play_all<A: Allocator + Copy>(
 
 // The result if there is no memory to open a world, or for its reports.
 fn unopened<A: Allocator + Copy>(alloc: A) -> PlayFault<A>
-    ensures fault { result.fault ≡ Fault.NoMemory }
+    ensures fault { result.fault ≡ EventFault.NoMemory }
     ensures at { result.at ≡ 0 }
     ensures reports { result.transcript.reports ≡ [] }
     ensures sent { result.transcript.sent ≡ [] }
 {
     PlayFault {
-        fault: Fault::NoMemory,
+        fault: EventFault::NoMemory,
         at: 0,
         transcript: Transcript {
             reports: Listed::from_vec(Vec::new(alloc)),
@@ -80,7 +80,7 @@ fn unopened<A: Allocator + Copy>(alloc: A) -> PlayFault<A>
 }
 
 fn stopped<A: Allocator + Copy>(
-    fault: Fault,
+    fault: EventFault,
     at: usize,
     reports: Vec<Report<A>, A>,
     world: World<A>,

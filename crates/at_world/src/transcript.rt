@@ -2,7 +2,7 @@
 use crate::sent::SentList;
 use at_ddp::Listed;
 use at_node::Report;
-use at_setup::Fault;
+use at_setup::EventFault;
 use std::alloc::{Allocator, Global};
 
 /// What the nodes reported, with one report for each event, and all that they sent.
@@ -15,7 +15,7 @@ pub struct Transcript<A: Allocator = Global> {
 /// Why a play stopped, which event was not played, counted from 0, and the transcript up to it.
 #[derive(Drop)]
 pub struct PlayFault<A: Allocator = Global> {
-    pub fault: Fault,
+    pub fault: EventFault,
     pub at: usize,
     pub transcript: Transcript<A>,
 }

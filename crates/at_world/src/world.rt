@@ -1,7 +1,6 @@
 //! The world: its nodes, all that they sent, and the step that plays one event or says why not.
-ghost use Rattle.std.specs.Prelude.{◌≡◌, Err, ◌==◌, ◌||◌, IfOk, IfErr, IsOk, IsErr, OnOk, OnErr, None, Some, false};
+ghost use Rattle.std.specs.Prelude.{◌≡◌, Err, ◌==◌, ◌||◌, IfOk, IfErr, Some, false};
 ghost use Rattle.std.specs.Prelude.{true};
-ghost use Rattle.at_world.specs.Draws.{noted};
 ghost use Rattle.std.specs.List.{position_from};
 ghost use Rattle.at_node.specs.Numbers.{Draws, drawn_by};
 ghost use Rattle.at_world.specs.Plays.{opening_world};
@@ -9,9 +8,9 @@ ghost use Rattle.at_nodes.specs.Nodes.{AreWithin};
 ghost use Rattle.at_world.specs.Safety.{IsSafe};
 ghost use Rattle.at_world.specs.Worlds.{AreFree, IsNotTaken, IsPlayable, Plays, PlaysAt};
 ghost use Rattle.at_nodes.specs.Taking.{Takes};
-ghost use Rattle.at_world.specs.Worlds.{PlaysDelivery, IsFault, Refuses, refusal, refusal_at, node_refusal};
+ghost use Rattle.at_world.specs.Worlds.{PlaysDelivery, IsFault};
 ghost use Rattle.at_nodes.specs.Nodes.{is_numbered};
-ghost use Rattle.at_world.specs.Worlds.{node_at, is_over, with_event};
+ghost use Rattle.at_world.specs.Worlds.{is_over};
 
 use crate::log::{Log, MAX_EVENTS, drawn_by};
 use crate::sent::SentList;
@@ -20,7 +19,7 @@ use at_ddp::Datagrams;
 use at_node::{Input, Node, Report};
 use at_nodes::{is_held, opening_nodes, place_of, take};
 use at_packet::Packet;
-use at_setup::{Event, Fault, Refusal, Setup};
+use at_setup::{Event, EventFault, Refusal, Setup};
 use at_steps::laws::safety::every_event_is_safe;
 use std::alloc::{AllocError, Allocator};
 use std::marker::Model;
@@ -76,11 +75,11 @@ impl<A: Allocator + Copy> World<A> {
     }
 
     /// Plays an event, or says why not. A world that ran out of memory has failed, and plays no more events.
-    pub fn step(&mut self, event: &Event<A>) -> Result<Report<A>, Fault>
+    pub fn step(&mut self, event: &Event<A>) -> Result<Report<A>, EventFault>
         ensures played { IfOk result (λ report. IsPlayable self.old event.now
             × Plays self.old event.now report self.new) }
         ensures not_played { IfErr result (λ fault. IsFault self.old event.now fault self.new) }
-        ensures failed { self.old.failed ≡ true → (result ≡ Err Fault.NoMemory) × (self.new ≡ self.old) }
+        ensures failed { self.old.failed ≡ true → (result ≡ Err EventFault.NoMemory) × (self.new ≡ self.old) }
         ensures safe { IfOk result (λ report. IsSafe self.old event.now report self.new) }
         ensures within { AreWithin self.new.nodes }
     {
@@ -96,25 +95,25 @@ impl<A: Allocator + Copy> World<A> {
         let _nodes = self.nodes.len();
     }
 
-    fn step_once(&mut self, event: &Event<A>) -> Result<Report<A>, Fault>
+    fn step_once(&mut self, event: &Event<A>) -> Result<Report<A>, EventFault>
         ensures played { IfOk result (λ report. IsPlayable self.old event.now
             × Plays self.old event.now report self.new) }
         ensures not_played { IfErr result (λ fault. IsFault self.old event.now fault self.new) }
-        ensures failed { self.old.failed ≡ true → (result ≡ Err Fault.NoMemory) × (self.new ≡ self.old) }
+        ensures failed { self.old.failed ≡ true → (result ≡ Err EventFault.NoMemory) × (self.new ≡ self.old) }
         ensures within { AreWithin self.new.nodes }
     {
         if self.log.failed {
-            return Err(Fault::NoMemory);
+            return Err(EventFault::NoMemory);
         }
         if self.is_over() {
-            return Err(Fault::Refused(Refusal::Limit));
+            return Err(EventFault::Refused(Refusal::Limit));
         }
         match event {
             Event::Call { node, call } => {
                 call.ranges();
                 self.play(*node, &Input::Call(call))
             }
-            Event::Deliver { which, node } => self.deliver(*which, *node),
+            Event::Deliver { datagram, node } => self.deliver(*datagram, *node),
             Event::Timer { node, timer } => self.play(*node, &Input::Timer(*timer)),
             Event::Forge { node, bytes } => self.forge(*node, bytes.as_slice()),
         }
@@ -127,7 +126,7 @@ impl<A: Allocator + Copy> World<A> {
     }
 
     // Bytes that no node sent come to a node.
-    fn forge(&mut self, node: u8, bytes: &[u8]) -> Result<Report<A>, Fault>
+    fn forge(&mut self, node: u8, bytes: &[u8]) -> Result<Report<A>, EventFault>
         requires whole { self.old.failed ≡ false }
         requires runs { is_over self.old ≡ false }
         ensures played { IfOk result (λ report. IsPlayable {A = A} self.old (Event.Forge node bytes.now)
@@ -140,7 +139,7 @@ impl<A: Allocator + Copy> World<A> {
     }
 
     // A node takes an input, unless it would draw a number under which some node still holds a record or an end.
-    fn play(&mut self, node: u8, input: &Input<'_, A>) -> Result<Report<A>, Fault>
+    fn play(&mut self, node: u8, input: &Input<'_, A>) -> Result<Report<A>, EventFault>
         requires whole { self.old.failed ≡ false }
         requires runs { is_over self.old ≡ false }
         ensures played { IfOk result (λ report. PlaysAt self.old node (Takes input.now) report self.new) }
@@ -149,49 +148,49 @@ impl<A: Allocator + Copy> World<A> {
         ensures within { AreWithin self.new.nodes }
     {
         let Some(place) = place_of(&self.nodes, node) else {
-            return Err(Fault::Refused(Refusal::NotForNode));
+            return Err(EventFault::Refused(Refusal::NotForNode));
         };
         if draws_held(&self.nodes, place, node, input) {
-            return Err(Fault::Refused(Refusal::Untimely));
+            return Err(EventFault::Refused(Refusal::Untimely));
         }
         let report = take(&mut self.nodes[place], input, &mut self.out);
         let Ok(()) = self.log.record(node, drawn_by(&report), &mut self.out) else {
-            return Err(Fault::NoMemory);
+            return Err(EventFault::NoMemory);
         };
         Ok(report)
     }
 
     // The bytes that come stay where they lie, since what the node sends goes to a list of its own first.
-    fn deliver(&mut self, which: u64, node: u8) -> Result<Report<A>, Fault>
+    fn deliver(&mut self, datagram: u64, node: u8) -> Result<Report<A>, EventFault>
         requires whole { self.old.failed ≡ false }
         requires runs { is_over self.old ≡ false }
-        ensures played { IfOk result (λ report. IsPlayable {A = A} self.old (Event.Deliver which node)
-            × PlaysDelivery self.old which node report self.new) }
+        ensures played { IfOk result (λ report. IsPlayable {A = A} self.old (Event.Deliver datagram node)
+            × PlaysDelivery self.old datagram node report self.new) }
         ensures not_played { IfErr result
-            (λ fault. IsFault {A = A} self.old (Event.Deliver which node) fault self.new) }
+            (λ fault. IsFault {A = A} self.old (Event.Deliver datagram node) fault self.new) }
         ensures within { AreWithin self.new.nodes }
     {
-        if which >= self.log.sent.len() as u64 {
-            return Err(Fault::Refused(Refusal::NoDatagram));
+        if datagram >= self.log.sent.len() as u64 {
+            return Err(EventFault::Refused(Refusal::NoDatagram));
         }
-        let sent = self.log.sent.get(which as usize);
+        let sent = self.log.sent.get(datagram as usize);
         if !is_for(sent.to, node) {
-            return Err(Fault::Refused(Refusal::NotForNode));
+            return Err(EventFault::Refused(Refusal::NotForNode));
         }
         let Some(place) = place_of(&self.nodes, node) else {
-            return Err(Fault::Refused(Refusal::NotForNode));
+            return Err(EventFault::Refused(Refusal::NotForNode));
         };
         let packet = Packet::of(sent.bytes);
         if !is_fresh(&self.log.last, &packet, sent.event) {
-            return Err(Fault::Refused(Refusal::Untimely));
+            return Err(EventFault::Refused(Refusal::Untimely));
         }
         let input = Input::Received(&packet);
         if draws_held(&self.nodes, place, node, &input) {
-            return Err(Fault::Refused(Refusal::Untimely));
+            return Err(EventFault::Refused(Refusal::Untimely));
         }
         let report = take(&mut self.nodes[place], &input, &mut self.out);
         let Ok(()) = self.log.record(node, drawn_by(&report), &mut self.out) else {
-            return Err(Fault::NoMemory);
+            return Err(EventFault::NoMemory);
         };
         Ok(report)
     }

@@ -3,9 +3,9 @@ use Rattle.std.proofs.Common.{◌≡◌, ℕ, ◌+◌, ◌*◌, ◌≤◌, List,
 use Rattle.at_ddp.specs.Fault.{number_at}
 use Rattle.at_ddp.proofs.Octets.{InBytes, high_byte, low_byte}
 use Rattle.at_zip.specs.Request.{RequestSpells, code_of}
-use Rattle.at_zip.specs.declared.request.Which.{Which}
+use Rattle.at_zip.specs.declared.request.TableChoice.{TableChoice}
 
-pub is_request : (user : List ℕ) (which : Which) (start : ℕ) → length user ≡ 4 → get_or user 0 0 ≡ code_of which
+pub is_request : (user : List ℕ) (which : TableChoice) (start : ℕ) → length user ≡ 4 → get_or user 0 0 ≡ code_of which
     → InBytes user
     → start ≡ number_at 2 user → 1 ≤ start → RequestSpells user which start
 is_request (a ∷ b ∷ c ∷ d ∷ []) which start len code fits is some =

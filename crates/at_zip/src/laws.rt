@@ -6,7 +6,7 @@ ghost use Rattle.at_zip.specs.Names.{spelled};
 ghost use Rattle.at_zip.specs.Page.{Page, IsLawful, Spells, IsPageFrom, page_of, page_user, page_data};
 ghost use Rattle.at_zip.specs.Reading.{BeginsTable, EndsWithLast, InTurn, NoneIsLast, names_of, place_after};
 ghost use Rattle.at_zip.specs.Request.{RequestSpells, request_user};
-ghost use Rattle.at_zip.specs.declared.request.Which.{Which};
+ghost use Rattle.at_zip.specs.declared.request.TableChoice.{TableChoice};
 ghost use Rattle.at_zip.specs.Tables.{Tables, AreTables, with_table};
 ghost use Rattle.at_zip.specs.Zones.{IsName, IsTable, is_name, table_fault};
 ghost use Rattle.at_zip.specs.declared.fault.ZipFault.{ZipFault};
@@ -14,7 +14,7 @@ ghost use Rattle.at_zip.specs.declared.fault.ZipFault.{ZipFault};
 /// What is written is read: the canonical bytes spell the request or the page that they were written for. The page of a
 /// table is lawful.
 pub fn what_is_written_is_read()
-    ensures request { (which : Which) (start : ℕ) → 1 ≤ start → start < 2 ^ 16
+    ensures request { (which : TableChoice) (start : ℕ) → 1 ≤ start → start < 2 ^ 16
         → RequestSpells (request_user which start) which start }
     ensures page { (p : Page) (rest : List ℕ) → IsLawful p → Spells (page_user p) (page_data p ++ rest) p }
     ensures lawful { (table : List (List ℕ)) (start : ℕ) → IsTable table → IsLawful (page_of table start) }
@@ -22,7 +22,7 @@ pub fn what_is_written_is_read()
 
 /// No bytes spell two requests or two pages, and no page has a fault.
 pub fn one_page_a_spelling()
-    ensures request { (user : List ℕ) (w v : Which) (m n : ℕ) → RequestSpells user w m → RequestSpells user v n
+    ensures request { (user : List ℕ) (w v : TableChoice) (m n : ℕ) → RequestSpells user w m → RequestSpells user v n
         → (w ≡ v) × (m ≡ n) }
     ensures page { (user bytes : List ℕ) (p q : Page) → Spells user bytes p → Spells user bytes q → p ≡ q }
     ensures faultless { (user bytes : List ℕ) (p : Page) → Spells user bytes p → (fault : ZipFault)
@@ -70,7 +70,7 @@ pub fn pages_in_turn_give_their_table()
 
 /// Both are tables still, once a table was put in the place of one of them.
 pub fn tables_stay_tables()
-    ensures { (which : Which) (names : List (List ℕ)) (tables : Tables) → IsTable names → AreTables tables
+    ensures { (which : TableChoice) (names : List (List ℕ)) (tables : Tables) → IsTable names → AreTables tables
         → AreTables (with_table which names tables) }
 {}
 

@@ -16,6 +16,6 @@ pub use fault::ZipFault;
 pub use page_view::{PageView, read_page};
 pub use paging::{MAX_PAGE_DATA, PageBytes, page};
 pub use reader::ZoneReader;
-pub use request::{Which, read_request, request_user};
+pub use request::{TableChoice, read_request, request_user};
 pub use tables::Tables;
 pub use zones::{MAX_ZONES, Zones, is_name, table_fault};

@@ -1,5 +1,5 @@
 //! Names after their length bytes, as a page has them.
-ghost use Rattle.std.specs.Prelude.{◌≡◌, ◌++◌, ℕ, List, length, IfOk, IfErr, OnOk};
+ghost use Rattle.std.specs.Prelude.{◌≡◌, ◌++◌, ℕ, List, IfOk, IfErr, OnOk};
 ghost use Rattle.at_zip.specs.Fault.{StandsAt, StandsAfterNames};
 ghost use Rattle.at_zip.specs.Names.{BeginsWithNames, name_spelling};
 ghost use Rattle.at_zip.specs.Zones.{IsName};

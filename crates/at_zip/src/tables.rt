@@ -2,7 +2,7 @@
 ghost use Rattle.std.specs.Prelude.{◌≡◌};
 ghost use Rattle.at_zip.specs.Tables.{AreTables, table_of, with_table};
 
-use crate::request::Which;
+use crate::request::TableChoice;
 use crate::zones::Zones;
 use std::alloc::{Allocator, Global};
 use std::marker::Model;
@@ -39,22 +39,22 @@ impl<A: Allocator> Tables<A> {
     }
 
     /// The table of this kind.
-    pub fn get(&self, which: Which) -> &Zones<A>
+    pub fn get(&self, which: TableChoice) -> &Zones<A>
         ensures { result.now ≡ table_of which self.now }
     {
         match which {
-            Which::All => &self.all,
-            Which::Local => &self.local,
+            TableChoice::All => &self.all,
+            TableChoice::Local => &self.local,
         }
     }
 
     /// Puts another table in the place of the one of this kind. This needs no memory.
-    pub fn set(&mut self, which: Which, zones: Zones<A>)
+    pub fn set(&mut self, which: TableChoice, zones: Zones<A>)
         ensures { self.new ≡ with_table which zones self.old }
     {
         match which {
-            Which::All => self.all = zones,
-            Which::Local => self.local = zones,
+            TableChoice::All => self.all = zones,
+            TableChoice::Local => self.local = zones,
         }
     }
 }

@@ -5,7 +5,7 @@ use Rattle.at_ddp.specs.Datagram.{Content as Datagram}
 use Rattle.at_ddp.specs.declared.address.Address.{Address}
 use Rattle.at_atp_frame.specs.Frames.{Content, Request, Response, Release, Spells}
 use Rattle.at_atp_frame.specs.Packets.{Packet}
-use Rattle.at_atp_responder.specs.Records.{Taken, finds_no_place, taken}
+use Rattle.at_atp_responder.specs.Records.{Received, finds_no_place, received}
 use Rattle.at_atp_responder.specs.declared.reception.Key.{Key}
 use Rattle.at_atp_responder.specs.declared.reception.Reception.{Reception}
 use Rattle.at_atp_responder.specs.declared.reception.Reception.TheVariants as reception
@@ -54,14 +54,14 @@ module _ (A X : Type 0) (q : Report A → Option X) (none : TellsNothing A X q) 
   released_none reception.Released = none.released
   released_none (reception.New key) = none.ignored
 
-  service_none : (s : Seat) (a : TransactionState) (t : Taken) (user bytes : List ℕ) (said : Reply A) (r : Reception)
+  service_none : (s : Seat) (a : TransactionState) (t : Received) (user bytes : List ℕ) (said : Reply A) (r : Reception)
       → Nothing (at_service s a t user bytes said r)
   service_none s a t user bytes said reception.Ignored = none.ignored
   service_none s a t user bytes said (reception.Again count) = none.again
   service_none s a t user bytes said reception.Released = none.released
   service_none s a t user bytes said (reception.New key) = none.asked key user bytes
 
-  zones_none : (s : Seat) (a : ZoneState) (t : Taken) (p : Packet) (r : Reception) → Nothing (at_zones s a t p r)
+  zones_none : (s : Seat) (a : ZoneState) (t : Received) (p : Packet) (r : Reception) → Nothing (at_zones s a t p r)
   zones_none s a t p reception.Ignored = none.ignored
   zones_none s a t p (reception.Again count) = none.again
   zones_none s a t p reception.Released = none.released
@@ -76,23 +76,24 @@ module _ (A X : Type 0) (q : Report A → Option X) (none : TellsNothing A X q) 
   at_service_none said s a from (Request mask xo timer tid user bytes) =
       let f = Request mask xo timer tid user bytes in
       either_none (finds_no_place a.service_responder from f) (idle a (report.Refused 14)) _
-      (none.refused 14) (service_none s a (taken a.service_responder from f) user bytes said
-      (taken a.service_responder from f).reception)
+      (none.refused 14) (service_none s a (received a.service_responder from f) user bytes said
+      (received a.service_responder from f).reception)
   at_service_none said s a from (Response place eom sts tid user bytes) = none.ignored
   at_service_none said s a from (Release tid) =
-      released_none (taken a.service_responder from (Release tid)).reception
+      released_none (received a.service_responder from (Release tid)).reception
 
   at_zones_none : (s : Seat) (a : ZoneState) (from : Address) (tables : Tables) (f : Content)
       (o : Outcome A ZoneState) → AtZones s a from tables f o → Nothing o
   at_zones_none s a from tables (Request mask xo timer tid user bytes) o (inl h) =
       let f = Request mask xo timer tid user bytes in
       as_told o _ h.outcome (either_none (finds_no_place a.zone_responder from f) (idle a (report.Refused 14)) _
-      (none.refused 14) (zones_none s a (taken a.zone_responder from f) (page_packet (table_of h.which tables) h.start)
-      (taken a.zone_responder from f).reception))
+      (none.refused 14) (zones_none s a (received a.zone_responder from f) (page_packet
+      (table_of h.which tables) h.start)
+      (received a.zone_responder from f).reception))
   at_zones_none s a from tables (Request mask xo timer tid user bytes) o (inr h) = as_told o _ h.1 none.ignored
   at_zones_none s a from tables (Response place eom sts tid user bytes) o h = as_told o _ h none.ignored
   at_zones_none s a from tables (Release tid) o h = as_told o _ h
-      (released_none (taken a.zone_responder from (Release tid)).reception)
+      (released_none (received a.zone_responder from (Release tid)).reception)
 
   -- so it is told by a packet for the socket that asks
   module _ (said : Reply A) (s : Seat) (a : AtpState) (d : Datagram) (o : Outcome A AtpState) where

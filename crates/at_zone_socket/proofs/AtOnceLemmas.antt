@@ -7,7 +7,7 @@ use Rattle.at_ddp.specs.declared.address.Address.{Address}
 use Rattle.at_atp_frame.specs.Frames.{Content, spelled_all}
 use Rattle.at_atp_frame.specs.Packets.{Packet}
 use Rattle.at_atp_responder.specs.AtOnce.{taken_new, with_request}
-use Rattle.at_atp_responder.specs.Records.{Record, after_answer, asked_for, finds_no_place, is_key, responses, taken}
+use Rattle.at_atp_responder.specs.Records.{Record, after_answer, asked_for, finds_no_place, is_key, responses, received}
 use Rattle.at_atp_responder.specs.declared.reception.NewRequest.{NewRequest}
 use Rattle.at_event.specs.Kinds.{takes_memory}
 use Rattle.at_event.specs.Outcomes.{IsStep, Outcome, posted, sent_by}
@@ -36,7 +36,7 @@ module _ (A : Type 0) (s : Seat) (a : ZoneState) (from : Address) (f : Content) 
   -- a request that is new among these records, and what becomes of it as if it had waited
   pub record IsAtOnce (rs : List Record) : Type 0 where
     pub place : finds_no_place rs from f ≡ false
-    pub new : taken rs from f ≡ taken_new rs q
+    pub new : received rs from f ≡ taken_new rs q
     pub asked : asked_for (find (is_key q.key) (with_request rs q)) q.key packets ≡ answer
     pub gone : after_answer (with_request rs q) q.key packets ≡ rs
 

@@ -5,10 +5,10 @@ use Rattle.at_ddp.specs.Datagram.{Content as Datagram}
 use Rattle.at_ddp.specs.declared.address.Address.{Address}
 use Rattle.at_atp_frame.specs.Frames.{Content}
 use Rattle.at_atp_requester.specs.Requests.{heard}
-use Rattle.at_atp_requester.specs.declared.step.Step.{Step}
-use Rattle.at_atp_requester.specs.declared.step.Step.TheVariants as step
+use Rattle.at_atp_requester.specs.declared.progress.RequestProgress.{RequestProgress}
+use Rattle.at_atp_requester.specs.declared.progress.RequestProgress.TheVariants as step
 use Rattle.at_zip.specs.Page as pages
-use Rattle.at_event.specs.Kinds.{Kind, Atp, Nobody, reporter_of}
+use Rattle.at_event.specs.Kinds.{Speaker, Atp, Nobody, reporter_of}
 use Rattle.at_event.specs.Outcomes.{Outcome}
 use Rattle.at_event.specs.declared.Report.{Report}
 use Rattle.at_event.specs.declared.Report.TheVariants as report
@@ -58,15 +58,15 @@ module _ (A : Type 0) (said : Reply A) (s : Seat) (a : AtpState) (d : Datagram) 
 -- ---- whose the reports are
 
 -- another part or the session, if one of these reports so
-abbrev other_part : Kind → Option Kind
+abbrev other_part : Speaker → Option Speaker
 other_part Atp = None
 other_part Nobody = None
 other_part k = Some k
 
-abbrev told_of_other : {A : Type 0} → Report A → Option Kind
+abbrev told_of_other : {A : Type 0} → Report A → Option Speaker
 told_of_other r = other_part (reporter_of r)
 
-none_other : (A : Type 0) → TellsNothing A Kind told_of_other
+none_other : (A : Type 0) → TellsNothing A Speaker told_of_other
 none_other A = record {
   ignored = refl;
   again = refl;
@@ -84,7 +84,7 @@ module _ (A : Type 0) (s : Seat) (a : AtpState) (from : Address) (f : Content) (
   as_reported : (x : Outcome A AtpState) → o ≡ x → told_of_other x.report ≡ None → Own
   as_reported x is own = ap (λ (y : Outcome A AtpState). told_of_other y.report) is ∙ own
 
-  other_own : (x : Step A) → told_of_other (reported_other {A = A} (tid_of f) x) ≡ None
+  other_own : (x : RequestProgress A) → told_of_other (reported_other {A = A} (tid_of f) x) ≡ None
   other_own step.Ignored = refl
   other_own step.Kept = refl
   other_own step.AskAgain = refl
@@ -116,7 +116,7 @@ module _ (A : Type 0) (s : Seat) (a : AtpState) (from : Address) (f : Content) (
       go false e = as_reported _ (rw e at at) (other_own (heard {A = A} a.transactions.requester from f).step)
       go true e = read_own (rw e at at)
 
-own_of : (k : Kind) → (other_part k ≡ None → (k ≡ Atp) ⊎ (k ≡ Nobody))
+own_of : (k : Speaker) → (other_part k ≡ None → (k ≡ Atp) ⊎ (k ≡ Nobody))
 own_of Atp h = inl refl
 own_of Nobody h = inr refl
 own_of other h = absurd (cc)
@@ -125,8 +125,8 @@ pub reports_own : (A : Type 0) (said : Reply A) (s : Seat) (a : AtpState) (d : D
     → HearsAtp said s a d o → (reporter_of o.report ≡ Atp) ⊎ (reporter_of o.report ≡ Nobody)
 reports_own A said s a d o h = own_of (reporter_of o.report) (go (told_of_other o.report) refl)
   where
-    go : (k : Option Kind) → told_of_other o.report ≡ k → told_of_other o.report ≡ None
+    go : (k : Option Speaker) → told_of_other o.report ≡ k → told_of_other o.report ≡ None
     go None e = e
     go (Some k) e =
-        let b = by_asker A Kind told_of_other (none_other A) said s a d o h k e in
+        let b = by_asker A Speaker told_of_other (none_other A) said s a d o h k e in
         asker_own A s a d.from b.packet o b.at

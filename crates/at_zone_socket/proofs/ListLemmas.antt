@@ -4,7 +4,7 @@ use Rattle.std.specs.Prelude.{◌==◌}
 use Rattle.std.proofs.lemmas.Bool.{false≢true}
 use Rattle.at_ddp.specs.Datagram.{Content as Datagram}
 use Rattle.at_ddp.specs.Datagrams.{Posted}
-use Rattle.at_zip.specs.declared.request.Which.{Which}
+use Rattle.at_zip.specs.declared.request.TableChoice.{TableChoice}
 use Rattle.at_event.specs.Outcomes.{Comes}
 use Rattle.at_event.specs.declared.Report.{Report}
 use Rattle.at_event.specs.declared.Report.TheVariants as report
@@ -33,7 +33,7 @@ lists_nothing A = record {
 -- a datagram for another socket ends no reading
 pub lists_at_asker : (A : Type 0) (said : Reply A) (s : Seat) (a : AtpState) (d : Datagram) (before after : List Posted)
     (r : Report A) (new : AtpState) → Comes (HearsAtp said s a d) a before r new after → (d.to.socket == 128) ≡ false
-    → (which : Which) (names : List (List ℕ)) → r ≡ report.Zones (zip_report.List which names) → {P : Type 0} → P
+    → (which : TableChoice) (names : List (List ℕ)) → r ≡ report.Zones (zip_report.List which names) → {P : Type 0} → P
 lists_at_asker A said s a d before after r new comes other which names tells =
     let c = subst (λ (r : Report A). Comes (HearsAtp said s a d) a before r new after) tells comes in
     let b = by_asker A (List (List ℕ)) listed_by (lists_nothing A) said s a d c.0 c.1 names

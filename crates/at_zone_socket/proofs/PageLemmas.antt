@@ -8,7 +8,7 @@ use Rattle.at_zip.specs.Page as page
 use Rattle.at_zip.specs.Fault as zip
 use Rattle.at_zip.specs.Request.{RequestSpells, request_user}
 use Rattle.at_zip.specs.Tables.{Tables, table_of}
-use Rattle.at_zip.specs.declared.request.Which.{Which}
+use Rattle.at_zip.specs.declared.request.TableChoice.{TableChoice}
 use Rattle.at_zip.specs.declared.fault.ZipFault.{ZipFault}
 use Rattle.at_event.specs.Outcomes.{Outcome}
 use Rattle.at_event.specs.declared.seat.Seat.{Seat}
@@ -17,10 +17,11 @@ use Rattle.at_zone_socket.specs.ZoneSockets.{ZoneState}
 use Rattle.at_zone_socket.specs.ZoneReading.{ReadsPage, TakesPage}
 use Rattle.at_zone_socket.specs.ZoneSocket.{AtZones, zone_asked}
 
-pub asked_is_served : (A : Type 0) (s : Seat) (a : ZoneState) (from : Address) (tables : Tables) (which : Which)
+pub asked_is_served : (A : Type 0) (s : Seat) (a : ZoneState) (from : Address) (tables : Tables) (which : TableChoice)
     (mask : ℕ) (xo : Bool) (timer tid start : ℕ) (bytes : List ℕ) (o : Outcome A ZoneState) →
-    ((v : Which) (k : ℕ) → 1 ≤ k → k < 2 ^ 16 → RequestSpells (request_user v k) v k)
-    → ((user : List ℕ) (v w : Which) (m k : ℕ) → RequestSpells user v m → RequestSpells user w k → (v ≡ w) × (m ≡ k))
+    ((v : TableChoice) (k : ℕ) → 1 ≤ k → k < 2 ^ 16 → RequestSpells (request_user v k) v k)
+    → ((user : List ℕ) (v w : TableChoice) (m k : ℕ) → RequestSpells user v m → RequestSpells user w k
+    → (v ≡ w) × (m ≡ k))
     → 1 ≤ start → start < 2 ^ 16 →
     AtZones s a from tables (Request mask xo timer tid (request_user which start) bytes) o → o
     ≡ zone_asked s a from (Request mask xo timer tid (request_user which start) bytes) (table_of which tables) start

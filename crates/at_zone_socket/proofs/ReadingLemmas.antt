@@ -9,8 +9,8 @@ use Rattle.at_ddp.specs.Protocols.{atp_kind}
 use Rattle.at_atp_frame.specs.Frames.{Content, spelled}
 use Rattle.at_atp_requester.specs.Requests.{Heard, begun, heard, next_number, request_by}
 use Rattle.at_zip.specs.Page as pages
-use Rattle.at_atp_requester.specs.declared.step.Step.{Step}
-use Rattle.at_atp_requester.specs.declared.step.Step.TheVariants as step
+use Rattle.at_atp_requester.specs.declared.progress.RequestProgress.{RequestProgress}
+use Rattle.at_atp_requester.specs.declared.progress.RequestProgress.TheVariants as step
 use Rattle.at_event.specs.declared.Report.{Report}
 use Rattle.at_event.specs.declared.Report.TheVariants as report
 use Rattle.at_event.specs.declared.transactions.TransactionReport.TheVariants as atp_report
@@ -186,7 +186,7 @@ module _ (A : Type 0) (s : Seat) (a : AtpState) (from : Address) (f : Content) w
   only_a_page_begins other o at = ap (λ (x : Outcome A AtpState). begun_in x.report) (rw other at at)
       ∙ go (heard {A = A} a.transactions.requester from f).step
     where
-      go : (x : Step A) → begun_in (reported_other {A = A} (tid_of f) x) ≡ None
+      go : (x : RequestProgress A) → begun_in (reported_other {A = A} (tid_of f) x) ≡ None
       go step.Ignored = refl
       go step.Kept = refl
       go step.AskAgain = refl

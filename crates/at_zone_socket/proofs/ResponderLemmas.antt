@@ -10,12 +10,12 @@ use Rattle.at_ddp.specs.declared.address.Address.{Address}
 use Rattle.at_ddp.specs.Protocols.{atp_kind}
 use Rattle.at_atp_frame.specs.Frames as Frames
 use Rattle.at_atp_frame.specs.Frames.{Content, spelled_all}
-use Rattle.at_atp_responder.specs.Records.{Record, taken, finds_no_place}
+use Rattle.at_atp_responder.specs.Records.{Record, received, finds_no_place}
 use Rattle.at_atp_responder.specs.declared.reception.Reception.{Reception}
 use Rattle.at_atp_responder.specs.declared.reception.Reception.TheVariants as reception
 use Rattle.at_zip.specs.Request.{RequestSpells}
 use Rattle.at_zip.specs.Tables.{Tables, table_of}
-use Rattle.at_zip.specs.declared.request.Which.{Which}
+use Rattle.at_zip.specs.declared.request.TableChoice.{TableChoice}
 use Rattle.at_event.specs.declared.Report.{Report}
 use Rattle.at_event.specs.declared.Report.TheVariants.{Ignored}
 use Rattle.at_event.specs.declared.seat.Seat.{Seat}
@@ -47,8 +47,8 @@ module _ (A : Type 0) (s : Seat) (a : ZoneState) (from : Address) (tables : Tabl
   pub zone_release : (f : Content) (before after : List Posted) (old new : List Record) (own : Address)
       (r : Report A) →
       is_release f ≡ true → old ≡ a.zone_responder → own ≡ zones_at s.net s.number → r
-      ≡ released_report (taken old from f).reception → new ≡ (taken old from f).after →
-      after ≡ before ++ map posted (sent_by own atp_kind (spelled_all (taken old from f).sent))
+      ≡ released_report (received old from f).reception → new ≡ (received old from f).after →
+      after ≡ before ++ map posted (sent_by own atp_kind (spelled_all (received old from f).sent))
       → Comes (AtZones s a from tables f) a before r (record a { zone_responder = new }) after
   zone_release (Frames.Request mask xo timer tid user bytes) before after old new own r this is at reports becomes
       sends = absurd (false≢true this)
@@ -56,20 +56,20 @@ module _ (A : Type 0) (s : Seat) (a : ZoneState) (from : Address) (tables : Tabl
       sends = absurd (false≢true this)
   zone_release (Frames.Release tid) before after old new own r this is at reports becomes sends =
       let f = Frames.Release tid in
-      comes_with (AtZones s a from tables f) a before (zone_released s a (taken a.zone_responder from f)) r
+      comes_with (AtZones s a from tables f) a before (zone_released s a (received a.zone_responder from f)) r
       (record a { zone_responder = new }) after refl (
-        reports ∙ ap (λ (rs : List Record). released_report (taken rs from f).reception) is,
-        (λ i. record a { zone_responder = (becomes ∙ ap (λ (rs : List Record). (taken rs from f).after) is) i }),
-        sends ∙ (λ i. before ++ map posted (sent_by (at i) atp_kind (spelled_all (taken (is i) from f).sent))),
+        reports ∙ ap (λ (rs : List Record). released_report (received rs from f).reception) is,
+        (λ i. record a { zone_responder = (becomes ∙ ap (λ (rs : List Record). (received rs from f).after) is) i }),
+        sends ∙ (λ i. before ++ map posted (sent_by (at i) atp_kind (spelled_all (received (is i) from f).sent))),
       )
-      (ap wants_memory reports ∙ release_some A (taken old from f).reception)
+      (ap wants_memory reports ∙ release_some A (received old from f).reception)
 
   module _ (mask : ℕ) (xo : Bool) (timer tid : ℕ) (user bytes : List ℕ) where
-    pub bad_request : ((which : Which) (start : ℕ) → ¬ RequestSpells user which start)
+    pub bad_request : ((which : TableChoice) (start : ℕ) → ¬ RequestSpells user which start)
         → AtZones {A = A} s a from tables (Frames.Request mask xo timer tid user bytes) (idle a Ignored)
     bad_request none = inr (none, refl)
 
-    pub good_request : (which : Which) (start : ℕ) → RequestSpells user which start
+    pub good_request : (which : TableChoice) (start : ℕ) → RequestSpells user which start
         → AtZones {A = A} s a from tables (Frames.Request mask xo timer tid user bytes)
         (zone_asked s a from (Frames.Request mask xo timer tid user bytes) (table_of which tables) start)
     good_request which start asks = inl (record { which = which; start = start; asks = asks; outcome = refl })
@@ -77,13 +77,13 @@ module _ (A : Type 0) (s : Seat) (a : ZoneState) (from : Address) (tables : Tabl
 -- a request that finds a place, and has an effect
 pub zone_takes : (A : Type 0) (s : Seat) (a : ZoneState) (from : Address) (f : Content) (table : List (List ℕ))
     (start : ℕ) → (finds_no_place a.zone_responder from f ≡ true → ⊥)
-    → ((taken a.zone_responder from f).reception ≡ reception.Ignored → ⊥)
+    → ((received a.zone_responder from f).reception ≡ reception.Ignored → ⊥)
     → takes_memory (zone_asked {A = A} s a from f table start).report ≡ true
 zone_takes A s a from f table start some heeds = rw (not_true (finds_no_place a.zone_responder from f) some)
-    (go (taken a.zone_responder from f).reception heeds)
+    (go (received a.zone_responder from f).reception heeds)
   where
     go : (r : Reception) → (r ≡ reception.Ignored → ⊥) → takes_memory
-        (at_zones {A = A} s a (taken a.zone_responder from f) (page_packet table start) r).report ≡ true
+        (at_zones {A = A} s a (received a.zone_responder from f) (page_packet table start) r).report ≡ true
     go reception.Ignored heeds = absurd (heeds refl)
     go (reception.Again count) heeds = refl
     go reception.Released heeds = refl

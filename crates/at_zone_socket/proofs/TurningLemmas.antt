@@ -7,7 +7,7 @@ use Rattle.at_ddp.specs.Tables.{replaced, without_first}
 use Rattle.at_ddp.specs.declared.address.Address.{Address}
 use Rattle.at_atp_frame.specs.Frames.{Content, Release, Request, Response}
 use Rattle.at_atp_frame.specs.Packets.{Packet}
-use Rattle.at_atp_requester.specs.Answers.{Arrival, is_wanted, whole, with_part}
+use Rattle.at_atp_requester.specs.Answers.{AnswerPart, is_wanted, whole, with_part}
 use Rattle.at_atp_requester.specs.Requests.{Heard, Requests, Transaction, came, came_for, finishes, heard}
 use Rattle.at_atp_requester.specs.Requests.{is_at_least_once, is_finished, is_of, next_number, response_came, was_kept}
 use Rattle.at_zip.specs.Page as pages
@@ -25,7 +25,7 @@ use Rattle.at_zone_socket.proofs.ReadingLemmas.{begun_in, only_a_page_begins, pa
 
 -- ---- the transaction
 
-module _ (A : Type 0) (r : Requests) (from : Address) (tid place : ℕ) (part : Arrival) (sts : Bool) where
+module _ (A : Type 0) (r : Requests) (from : Address) (tid place : ℕ) (part : AnswerPart) (sts : Bool) where
   abbrev At : Option Transaction → Heard A
   At o = response_came {A = A} r (is_of tid from) place part sts o
 
@@ -108,7 +108,7 @@ module _ (A : Type 0) (s : Seat) (a : AtpState) (from : Address) (f : Content) w
   pub turning_begins : (tid : ℕ) → TurnsPage a from f tid → Begins tid
   turning_begins tid t =
       let r = t.reading in
-      let part : Arrival = record { eom = t.ends; packet = t.packet } in
+      let part : AnswerPart = record { eom = t.ends; packet = t.packet } in
       let f' : Content = Response t.place t.ends t.status r.tid t.packet.user t.packet.data_ in
       let once = completes_once A a.transactions.requester from r.tid t.place part t.status t.completes in
       let ends = completes_ends A a.transactions.requester from r.tid t.place part t.status t.completes in
@@ -137,7 +137,7 @@ module _ (A : Type 0) (s : Seat) (a : AtpState) (from : Address) (f : Content) w
       absurd (false≢true reads)
   by_response place ends status tid user bytes (Some r) is reads f_is h p spelled few on next drawn =
       let same : r.tid ≡ tid = eqb-true r.tid tid reads in
-      let part : Arrival = record { eom = ends; packet = record { user = user; data_ = bytes } } in
+      let part : AnswerPart = record { eom = ends; packet = record { user = user; data_ = bytes } } in
       let parts = and_parts (is_at_least_once (find (is_of tid from) a.transactions.requester.standing))
       (is_finished (response_came {A = A} a.transactions.requester (is_of tid from) place part status
       (find (is_of tid from) a.transactions.requester.standing)).step) h in
@@ -189,14 +189,14 @@ module _ (A : Type 0) (s : Seat) (a : AtpState) (from : Address) (f : Content) w
       nothing : begun_in o.report ≡ None → GoesOn tid
       nothing none = let both = sym none ∙ ap begun_in is in absurd (cc)
 
-      taken : (p : pages.Page) → pages.Spells (packet_in f).user (packet_in f).data_ p → (long last : Bool)
+      received : (p : pages.Page) → pages.Spells (packet_in f).user (packet_in f).data_ p → (long last : Bool)
           → nat_lt 1024 (length (names_read a.zones.reading) + length p.names) ≡ long → p.last ≡ last
           → TakesPage s a (heard {A = A} a.transactions.requester from f) from (names_read a.zones.reading) p o
           → GoesOn tid
-      taken p spelled true last e g t = nothing (ap (λ (x : Outcome A AtpState). begun_in x.report) (rw e at t))
-      taken p spelled false true e g t =
+      received p spelled true last e g t = nothing (ap (λ (x : Outcome A AtpState). begun_in x.report) (rw e at t))
+      received p spelled false true e g t =
           nothing (ap (λ (x : Outcome A AtpState). begun_in x.report) (rw (e, g) at t))
-      taken p spelled false false e g t =
+      received p spelled false false e g t =
           let asked : AsksOn s a (heard {A = A} a.transactions.requester from f) from
           (names_read a.zones.reading ++ p.names) o = rw (e, g) at t in
           let both : report.Transactions (atp_report.Begun asked.tid) ≡ report.Transactions (atp_report.Begun tid) =
@@ -206,7 +206,7 @@ module _ (A : Type 0) (s : Seat) (a : AtpState) (from : Address) (f : Content) w
 
       had : ReadsPage s a (heard {A = A} a.transactions.requester from f) from (names_read a.zones.reading)
           (packet_in f) o → GoesOn tid
-      had (inl h) = taken h.page h.spelled
+      had (inl h) = received h.page h.spelled
           (nat_lt 1024 (length (names_read a.zones.reading) + length h.page.names)) h.page.last refl refl h.outcome
       had (inr h) = nothing (ap (λ (x : Outcome A AtpState). begun_in x.report) h.outcome)
 

@@ -6,8 +6,8 @@ use Rattle.at_atp_frame.specs.Fault.{number_of}
 use Rattle.at_atp_frame.specs.declared.fault.AtpFault.{AtpFault}
 use Rattle.at_atp_frame.specs.declared.fault.AtpFault.TheVariants.{NoSuch}
 use Rattle.at_atp_requester.specs.Requests.{Retried}
-use Rattle.at_atp_requester.specs.declared.step.Retry.{Retry}
-use Rattle.at_atp_requester.specs.declared.step.Retry.TheVariants as retry
+use Rattle.at_atp_requester.specs.declared.progress.Retry.{Retry}
+use Rattle.at_atp_requester.specs.declared.progress.Retry.TheVariants as retry
 use Rattle.at_atp_responder.specs.Records.{Record, is_key, expiry_fault}
 use Rattle.at_atp_responder.specs.declared.reception.Key.{Key}
 use Rattle.at_event.specs.declared.Report.TheVariants as report

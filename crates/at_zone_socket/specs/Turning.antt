@@ -6,14 +6,14 @@ use Rattle.at_ddp.specs.Tables.{without_first}
 use Rattle.at_ddp.specs.declared.address.Address.{Address}
 use Rattle.at_atp_frame.specs.Frames.{Content, Response, Spells}
 use Rattle.at_atp_frame.specs.Packets.{Packet}
-use Rattle.at_atp_requester.specs.Answers.{Arrival, is_wanted, whole, with_part}
+use Rattle.at_atp_requester.specs.Answers.{AnswerPart, is_wanted, whole, with_part}
 use Rattle.at_atp_requester.specs.Requests.{Requests, Transaction, is_of, next_number}
 use Rattle.at_zip.specs.Page.{Page, Spells as SpellsPage}
 use Rattle.at_zone_socket.specs.AtpParts.{AtpState}
 use Rattle.at_zone_socket.specs.ZoneSockets.{Reading}
 
 -- with a packet for this place, the answer to an open at-least-once transaction is whole
-pub record Completes (r : Requests) (from : Address) (tid place : ℕ) (part : Arrival) : Type 0 where
+pub record Completes (r : Requests) (from : Address) (tid place : ℕ) (part : AnswerPart) : Type 0 where
   pub transaction : Transaction
   pub stands : find (is_of tid from) r.standing ≡ Some transaction
   pub at_least_once : transaction.xo ≡ false

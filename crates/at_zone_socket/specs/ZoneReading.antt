@@ -13,8 +13,8 @@ use Rattle.at_zip.specs.Fault as zip
 use Rattle.at_zip.specs.Page as pages
 use Rattle.at_zip.specs.Reading.{place_after}
 use Rattle.at_zip.specs.Request.{request_user}
-use Rattle.at_zip.specs.declared.request.Which.{Which}
-use Rattle.at_zip.specs.declared.request.Which.TheVariants.{All}
+use Rattle.at_zip.specs.declared.request.TableChoice.{TableChoice}
+use Rattle.at_zip.specs.declared.request.TableChoice.TheVariants.{All}
 use Rattle.at_zip.specs.declared.fault.ZipFault.{ZipFault}
 use Rattle.at_zip.specs.declared.fault.ZipFault.TheVariants.{TooManyZones}
 use Rattle.at_event.specs.declared.Report.{Report}
@@ -31,19 +31,19 @@ use Rattle.at_event.specs.Outcomes.{Outcome, idle, over, refused_as}
 
 -- the transaction by which a reading of this table asks for the page after the names that it has: one packet, at least
 -- once, with three retries
-abbrev pub page_transaction : Address → Which → List (List ℕ) → ℕ → Transaction
+abbrev pub page_transaction : Address → TableChoice → List (List ℕ) → ℕ → Transaction
 page_transaction to which names tid = beginning tid to (request_user which (place_after names)) [] 1 false 3
 
 -- ---- the call
 
-abbrev pub reading_begins : {A : Type 0} → Seat → AtpState → Which → ℕ → Option ℕ → Outcome A AtpState
+abbrev pub reading_begins : {A : Type 0} → Seat → AtpState → TableChoice → ℕ → Option ℕ → Outcome A AtpState
 reading_begins s a which router None = idle a (refused_as (atp.number_of Full))
 reading_begins s a which router (Some tid) =
     over (with_reading a (Some (record { which = which; tid = tid; names = [] })))
     (asks s a.transactions (page_transaction (zones_at s.net router) which [] tid))
 
 -- without a router nothing can be read, and a node reads one table at a time
-abbrev pub zones_called : {A : Type 0} → Seat → AtpState → Which → Option ℕ → Option Reading → Outcome A AtpState
+abbrev pub zones_called : {A : Type 0} → Seat → AtpState → TableChoice → Option ℕ → Option Reading → Outcome A AtpState
 zones_called s a which None reading = idle a (report.Refused (number_of NoRouter))
 zones_called s a which (Some router) (Some r) = idle a (report.Refused (number_of StillReading))
 zones_called s a which (Some router) None = reading_begins s a which router (next_number a.transactions.requester)
@@ -56,7 +56,7 @@ is_reading None tid = false
 is_reading (Some r) tid = r.tid == tid
 
 -- which table is read
-abbrev pub table_read : Option Reading → Which
+abbrev pub table_read : Option Reading → TableChoice
 table_read None = All
 table_read (Some r) = r.which
 

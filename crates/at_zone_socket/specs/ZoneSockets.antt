@@ -3,11 +3,11 @@ use Rattle.std.specs.Prelude.{ℕ, List, [], Option, None}
 use Rattle.at_ddp.specs.declared.address.Address.{Address}
 use Rattle.at_atp_responder.specs.Records.{Record}
 use Rattle.at_zip.specs.Tables.{Tables}
-use Rattle.at_zip.specs.declared.request.Which.{Which}
+use Rattle.at_zip.specs.declared.request.TableChoice.{TableChoice}
 
 -- a reading of a zone table: which one, the transaction that asks for the next page, and the names of the pages so far
 pub record Reading : Type 0 where
-  pub which : Which
+  pub which : TableChoice
   pub tid : ℕ
   pub names : List (List ℕ)
 

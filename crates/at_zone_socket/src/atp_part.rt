@@ -15,7 +15,7 @@ use at_atp::{AtpFault, Key, Packet, Retry};
 use at_ddp::{Datagrams, Listed, Pascal};
 use at_event::{Report, Seat, TransactionReport};
 use at_transaction_socket::{Question, SERVICE_SOCKET, TransactionSocket, refused};
-use at_zip::{Tables, Which};
+use at_zip::{TableChoice, Tables};
 use std::alloc::{Allocator, Global};
 use std::marker::Model;
 
@@ -72,7 +72,12 @@ impl<A: Allocator + Copy> AtpPart<A> {
     }
 
     /// Asks the router for a zone table.
-    pub fn read_zones(&mut self, seat: Seat, which: Which, out: &mut Datagrams<A>) -> Report<A>
+    pub fn read_zones(
+        &mut self,
+        seat: Seat,
+        which: TableChoice,
+        out: &mut Datagrams<A>,
+    ) -> Report<A>
         ensures { IsStep (zones_called seat self.old which seat.router self.old.zones.reading) self.old out.old.items
             result self.new out.new.items }
     {
@@ -80,7 +85,7 @@ impl<A: Allocator + Copy> AtpPart<A> {
     }
 
     /// Replaces one of the router's two zone tables.
-    pub fn set_zones(&mut self, which: Which, names: &[Pascal]) -> Report<A>
+    pub fn set_zones(&mut self, which: TableChoice, names: &[Pascal]) -> Report<A>
         ensures { (items : List Posted) → IsStep (over (with_zones self.old)
             (set_zones_called self.old.zones self.old.zones.tables which names.now)) self.old items result self.new
             items }

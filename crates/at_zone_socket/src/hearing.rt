@@ -4,7 +4,7 @@ ghost use Rattle.at_atp_frame.specs.Frames.{content};
 ghost use Rattle.at_event.specs.Outcomes.{Comes};
 ghost use Rattle.at_event.specs.Services.{Serves, is_asked};
 ghost use Rattle.at_event.specs.declared.service.Reply.{Reply as Said};
-ghost use Rattle.at_zip.specs.declared.request.Which.{Which as Table};
+ghost use Rattle.at_zip.specs.declared.request.TableChoice.{TableChoice as Table};
 ghost use Rattle.at_zone_socket.specs.AtpHearing as Heard;
 ghost use Rattle.at_zone_socket.specs.AtpHearing.{AtRequester, HearsAt, HearsAtp};
 

@@ -8,7 +8,7 @@ ghost use Rattle.at_atp_requester.specs.Requests.{Heard};
 ghost use Rattle.at_zip.specs.Page.{Page, IsLawful as IsLawfulPage, page_user, page_data};
 ghost use Rattle.at_zip.specs.Request.{request_user};
 ghost use Rattle.at_zip.specs.Tables.{Tables, table_of};
-ghost use Rattle.at_zip.specs.declared.request.Which.{Which};
+ghost use Rattle.at_zip.specs.declared.request.TableChoice.{TableChoice};
 ghost use Rattle.at_event.specs.Kinds.{Atp, Nobody, reporter_of};
 ghost use Rattle.at_event.specs.Outcomes.{Outcome};
 ghost use Rattle.at_event.specs.declared.Report.TheVariants.{Transactions};
@@ -27,12 +27,12 @@ use std::alloc::Allocator;
 /// A request for the page of a table from a place on is answered with that page, and no other. The page that was
 /// written is the page that a reading takes.
 pub fn pages_are_served_and_taken<A: Allocator>()
-    ensures served { (s : Seat) (a : ZoneState) (from : Address) (tables : Tables) (which : Which) (mask : ℕ)
+    ensures served { (s : Seat) (a : ZoneState) (from : Address) (tables : Tables) (which : TableChoice) (mask : ℕ)
         (xo : Bool) (timer tid start : ℕ) (bytes : List ℕ) (o : Outcome A ZoneState) → 1 ≤ start → start < 2 ^ 16
         → AtZones s a from tables (Request mask xo timer tid (request_user which start) bytes) o
         → o ≡ zone_asked s a from (Request mask xo timer tid (request_user which start) bytes)
         (table_of which tables) start }
-    ensures taken { (s : Seat) (a : AtpState) (h : Heard A) (from : Address) (names : List (List ℕ)) (p : Page)
+    ensures received { (s : Seat) (a : AtpState) (h : Heard A) (from : Address) (names : List (List ℕ)) (p : Page)
         (o : Outcome A AtpState) → IsLawfulPage p
         → ReadsPage s a h from names (record { user = page_user p; data_ = page_data p }) o
         → TakesPage s a h from names p o }

@@ -15,7 +15,7 @@ ghost use Rattle.at_zone_socket.specs.ZoneReading.{AsksOn, TakesPage, is_page, r
 ghost use Rattle.at_zone_socket.specs.ZoneSockets.{Reading};
 ghost use Rattle.at_zip.specs.Fault.{number_of as zip_number};
 ghost use Rattle.at_zip.specs.Reading.{HasRoomFor};
-ghost use Rattle.at_zip.specs.declared.request.Which.{Which as Table};
+ghost use Rattle.at_zip.specs.declared.request.TableChoice.{TableChoice as Table};
 
 use crate::zone_reading::{RETRIES, ZoneReading};
 use crate::zone_socket::ZoneSocket;

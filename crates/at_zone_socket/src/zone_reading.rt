@@ -14,7 +14,7 @@ use crate::zone_socket::{ZONE_SOCKET, ZoneSocket};
 use at_ddp::{Address, Datagrams};
 use at_event::{NodeFault, Report, Seat, TransactionReport, ZoneReport};
 use at_transaction_socket::{Incoming, Question, TransactionSocket, refused, tid_of};
-use at_zip::{PageView, Which, ZoneReader, request_user};
+use at_zip::{PageView, TableChoice, ZoneReader, request_user};
 use std::alloc::Allocator;
 
 // How often a page is asked for again.
@@ -24,7 +24,7 @@ pub(crate) const RETRIES: u8 = 3;
 #[derive(Drop)]
 pub(crate) struct ZoneReading<A: Allocator> {
     // The table that is read.
-    pub(crate) which: Which,
+    pub(crate) which: TableChoice,
     // The transaction that asks for the next page.
     pub(crate) tid: u16,
     // The names of the pages so far.
@@ -36,7 +36,7 @@ impl<A: Allocator + Copy> ZoneSocket<A> {
     pub fn read(
         &mut self,
         seat: Seat,
-        which: Which,
+        which: TableChoice,
         transactions: &mut TransactionSocket<A>,
         out: &mut Datagrams<A>,
     ) -> Report<A>
@@ -75,7 +75,7 @@ impl<A: Allocator + Copy> ZoneSocket<A> {
         packet: &Incoming<'_>,
         transactions: &TransactionSocket<A>,
     ) -> Option<ZoneReading<A>>
-        ensures taken { IfSome result
+        ensures received { IfSome result
             (λ reading. self.old ≡ record self.new { reading = Some (reading_of reading) }) }
         ensures page { IsSome result
             → is_page A (both transactions.now self.old) packet.now.from (content packet.now.frame) ≡ true }
@@ -127,7 +127,7 @@ impl<A: Allocator + Copy> ZoneSocket<A> {
 }
 
 // The request for the first page of a zone table: one packet.
-fn first_page(router: Address, which: Which) -> Question<'static>
+fn first_page(router: Address, which: TableChoice) -> Question<'static>
     ensures to { result.to ≡ router }
     ensures user { result.user ≡ request_user which 1 }
     ensures bytes { result.bytes.now ≡ [] }

@@ -12,7 +12,7 @@ ghost use Rattle.at_zone_socket.specs.ZoneSockets.{ZoneState, opening, zones_at}
 ghost use Rattle.at_event.specs.Outcomes.{Comes, IsStep, posted, sent_by};
 ghost use Rattle.at_event.specs.Services.{is_asked};
 ghost use Rattle.at_zone_socket.specs.ZoneSocket.{AtZones, page_packet, set_zones_called, zone_asked};
-ghost use Rattle.at_event.specs.declared.seat.Seat.{Seat as Place};
+ghost use Rattle.at_event.specs.declared.seat.Seat.{Seat as SeatOf};
 ghost use Rattle.at_zip.specs.declared.Tables.{Tables as TwoTables};
 
 use crate::zone_reading::ZoneReading;
@@ -21,7 +21,7 @@ use at_atp::{AtpFault, Frame, Key, NewRequest, Packet, Reception, Responder};
 use at_ddp::{ATP, Address, Datagrams, Listed, Outbox, Pascal};
 use at_event::{NodeFault, Report, TransactionReport, ZoneReport};
 use at_transaction_socket::{Incoming, answer, hear, refused, release};
-use at_zip::{Tables, Which, Zones, page, read_request};
+use at_zip::{TableChoice, Tables, Zones, page, read_request};
 use std::alloc::{AllocError, Allocator, Global};
 use std::marker::Model;
 
@@ -74,7 +74,7 @@ impl<A: Allocator + Copy> ZoneSocket<A> {
     }
 
     /// Replaces one of the router's two zone tables.
-    pub fn set_table(&mut self, which: Which, names: &[Pascal]) -> Report<A>
+    pub fn set_table(&mut self, which: TableChoice, names: &[Pascal]) -> Report<A>
         ensures { (items : List Posted) → IsStep (set_zones_called self.old self.old.tables which names.now) self.old
             items result self.new items }
     {
@@ -156,7 +156,7 @@ fn serve_request<A: Allocator + Copy>(
     out: &mut Datagrams<A>,
 ) -> Report<A>
     requires { 1 ≤ start }
-    ensures step { (s : Place) (a : ZoneState) → a.zone_responder ≡ records.old → zones_at s.net s.number ≡ own →
+    ensures step { (s : SeatOf) (a : ZoneState) → a.zone_responder ≡ records.old → zones_at s.net s.number ≡ own →
         IsStep (zone_asked s a packet.now.from (content packet.now.frame) zones.now start) a out.old.items result
         (record a { zone_responder = records.new }) out.new.items }
     ensures not_asked { is_asked result ≡ false }
@@ -185,7 +185,8 @@ fn serve_at_once<A: Allocator + Copy>(
         ≡ length (responses request.key 0 request.bitmap (page_packet zones.now start ∷ []))) }
     ensures sent { OnOk result
         (out.new.items ≡ out.old.items ++ map posted
-        (sent_by own atp_kind (spelled_all (responses request.key 0 request.bitmap (page_packet zones.now start ∷ []))))) }
+        (sent_by own atp_kind
+        (spelled_all (responses request.key 0 request.bitmap (page_packet zones.now start ∷ []))))) }
     ensures nothing_sent { OnErr result (out.new.items ≡ out.old.items) }
 {
     let alloc = *room.allocator();
@@ -207,7 +208,7 @@ fn serve_filed<A: Allocator + Copy>(
     out: &mut Datagrams<A>,
 ) -> Report<A>
     requires { 1 ≤ start }
-    ensures step { (s : Place) (a : ZoneState) → a.zone_responder ≡ records.old → zones_at s.net s.number ≡ own →
+    ensures step { (s : SeatOf) (a : ZoneState) → a.zone_responder ≡ records.old → zones_at s.net s.number ≡ own →
         IsStep (zone_asked s a packet.now.from (content packet.now.frame) zones.now start) a out.old.items result
         (record a { zone_responder = records.new }) out.new.items }
     ensures not_asked { is_asked result ≡ false }

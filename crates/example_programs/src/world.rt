@@ -127,8 +127,8 @@ fn retry() -> Event {
 }
 
 // The datagram of this number comes to a node. Datagrams are numbered from 0, in the order in which they were sent.
-fn deliver(which: u64, node: u8) -> Event {
-    Event::Deliver { which, node }
+fn deliver(datagram: u64, node: u8) -> Event {
+    Event::Deliver { datagram, node }
 }
 
 // Plays the event of a number, and prints what came of it.

@@ -3,17 +3,17 @@ use Rattle.std.specs.Prelude.{◌≡◌, ℕ, List, [], codes}
 use Rattle.std.specs.List.{AllZip}
 use Rattle.at_event.specs.declared.zones.ZoneCall.{ZoneCall}
 use Rattle.at_event.specs.declared.zones.ZoneCall.TheVariants.{Read, Set}
-use Rattle.at_zip.specs.declared.request.Which.{Which}
-use Rattle.at_zip.specs.declared.request.Which.TheVariants.{All, Local}
+use Rattle.at_zip.specs.declared.request.TableChoice.{TableChoice}
+use Rattle.at_zip.specs.declared.request.TableChoice.TheVariants.{All, Local}
 use Rattle.at_words.specs.Texts.{IsText}
 
 -- the word of a call that reads a zone table
-abbrev pub list_word : Which → List ℕ
+abbrev pub list_word : TableChoice → List ℕ
 list_word All = codes "zones"
 list_word Local = codes "localzones"
 
 -- the word of a call that gives the router a zone table
-abbrev pub table_word : Which → List ℕ
+abbrev pub table_word : TableChoice → List ℕ
 table_word All = codes "setzones"
 table_word Local = codes "setlocal"
 

@@ -10,12 +10,13 @@ ghost use Rattle.at_words.specs.Hexes.{IsUser};
 ghost use Rattle.at_words.specs.Numbers.{IsTwoBytes};
 ghost use Rattle.at_words.specs.Words.{words_of};
 
+use crate::call::asks::broken;
 use crate::data_word::data_of;
 use crate::requester::{Requesters, requester};
 use at_atp::{Key, Packet};
 use at_ddp::Listed;
-use at_event::{Call, TransactionCall};
-use at_faults::{LineFault, Rule};
+use at_event::{Call, TransactionCall, TransactionRule};
+use at_faults::LineFault;
 use at_words::{Words, two_bytes, user_of};
 use std::alloc::Allocator;
 
@@ -55,7 +56,7 @@ pub(crate) fn answer<A: Allocator + Copy>(
     ensures { IsFoundInMemory result
         (SaysCall (Names requesters net) (codes "answer") (words_of words.entry.rest.now)) }
 {
-    let said = AnswerWords::of(requesters, net, words).ok_or(LineFault::Unlawful(Rule::Answer))?;
+    let said = AnswerWords::of(requesters, net, words).ok_or(broken(TransactionRule::Answer))?;
     let packets = packets_of(alloc, said.packets)?;
     Ok(Call::Transactions(TransactionCall::Answer {
         key: said.key,
@@ -80,7 +81,7 @@ fn packets_of<A: Allocator + Copy>(
 fn packet_of<A: Allocator>(alloc: A, word: &[u8]) -> Result<Packet<A>, LineFault>
     ensures { IsFoundInMemory result (IsPacketWord word.now) }
 {
-    let (user, bytes) = packet_words(word).ok_or(LineFault::Unlawful(Rule::Answer))?;
+    let (user, bytes) = packet_words(word).ok_or(broken(TransactionRule::Answer))?;
     Ok(Packet::new(user, data_of(alloc, bytes)?))
 }
 

@@ -1,6 +1,6 @@
 //! The words of an ask.
 ghost use Rattle.std.specs.Prelude.{◌≡◌, ◌∷◌, [], List, ℕ, Bool, codes, IfSome, IsNone};
-ghost use Rattle.at_call_words.specs.Calls.Transactions.{AskSays, IsMode, IsWanted};
+ghost use Rattle.at_call_words.specs.Calls.Transactions.{IsMode, IsWanted};
 ghost use Rattle.at_call_words.specs.Calls.{SaysPlain};
 ghost use Rattle.at_call_words.specs.Readings.{IsFoundInMemory};
 ghost use Rattle.at_words.specs.Hexes.{IsUser};
@@ -9,7 +9,7 @@ ghost use Rattle.at_words.specs.Readings.{IsFound};
 ghost use Rattle.at_words.specs.Words.{words_of};
 
 use crate::data_word::data_of;
-use at_event::{Call, PacketCount, TransactionCall};
+use at_event::{Call, EventRule, PacketCount, TransactionCall, TransactionRule};
 use at_faults::{LineFault, Rule};
 use at_words::{Words, byte, node_number, user_of};
 use std::alloc::Allocator;
@@ -80,7 +80,7 @@ pub(crate) fn ask<A: Allocator>(alloc: A, words: Words<'_>) -> Result<Call<A>, L
     ensures { IsFoundInMemory result (SaysPlain (codes "ask") (words_of words.entry.rest.now)) }
 {
     let Some(said) = AskWords::of(words) else {
-        return Err(LineFault::Unlawful(Rule::Ask));
+        return Err(broken(TransactionRule::Ask));
     };
     match data_of(alloc, said.data_) {
         Ok(data_) => Ok(Call::Transactions(TransactionCall::Ask {
@@ -94,4 +94,11 @@ pub(crate) fn ask<A: Allocator>(alloc: A, words: Words<'_>) -> Result<Call<A>, L
         })),
         Err(fault) => Err(fault),
     }
+}
+
+/// The fault of words of transactions that break a rule.
+pub(crate) fn broken(rule: TransactionRule) -> LineFault
+    ensures { result ≡ LineFault.Unlawful (Rule.Event (EventRule.Transactions rule)) }
+{
+    LineFault::Unlawful(Rule::Event(EventRule::Transactions(rule)))
 }

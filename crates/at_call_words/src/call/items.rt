@@ -9,6 +9,7 @@ ghost use Rattle.at_words.specs.Words.{words_of};
 
 use at_adsp_end::Item;
 use at_ddp::Listed;
+use at_event::{EventRule, StreamRule};
 use at_faults::{LineFault, Rule};
 use at_words::{Words, put_bytes};
 use std::alloc::Allocator;
@@ -72,10 +73,17 @@ fn push_block<A: Allocator>(items: &mut Vec<Item, A>, digits: &[u8]) -> Result<(
     let mut room = [0u8; BLOCK];
     let bytes = &mut room[..digits.len() / 2];
     if !put_bytes(digits, bytes) {
-        return Err(LineFault::Unlawful(Rule::Write));
+        return Err(broken(StreamRule::Write));
     }
     for byte in bytes.iter() {
         items.push(Item::Byte(*byte))?;
     }
     Ok(())
+}
+
+/// The fault of words of streams that break a rule.
+pub(crate) fn broken(rule: StreamRule) -> LineFault
+    ensures { result ≡ LineFault.Unlawful (Rule.Event (EventRule.Streams rule)) }
+{
+    LineFault::Unlawful(Rule::Event(EventRule::Streams(rule)))
 }

@@ -10,7 +10,7 @@ ghost use Rattle.at_words.specs.Words.{words_of};
 
 use crate::words::{one, three, two};
 use at_ddp::Pascal;
-use at_event::{Call, NameCall};
+use at_event::{Call, EventRule, NameCall, NameRule};
 use at_faults::{LineFault, Rule};
 use at_words::{Words, byte, node_number, text};
 use std::alloc::Allocator;
@@ -95,29 +95,36 @@ fn unregister<A: Allocator>(words: Words<'_>) -> Option<Call<A>>
 pub(crate) fn find_call<A: Allocator>(words: Words<'_>) -> Result<Call<A>, LineFault>
     ensures { IsFoundInMemory result (SaysPlain (codes "find") (words_of words.entry.rest.now)) }
 {
-    find(words).ok_or(LineFault::Unlawful(Rule::Find))
+    find(words).ok_or(broken(NameRule::Find))
 }
 
 pub(crate) fn claim_call<A: Allocator>(words: Words<'_>) -> Result<Call<A>, LineFault>
     ensures { IsFoundInMemory result (SaysPlain (codes "claim") (words_of words.entry.rest.now)) }
 {
-    claim(words).ok_or(LineFault::Unlawful(Rule::Claim))
+    claim(words).ok_or(broken(NameRule::Claim))
 }
 
 pub(crate) fn finish_call<A: Allocator>(words: Words<'_>) -> Result<Call<A>, LineFault>
     ensures { IsFoundInMemory result (SaysPlain (codes "finish") (words_of words.entry.rest.now)) }
 {
-    finish(words).ok_or(LineFault::Unlawful(Rule::Finish))
+    finish(words).ok_or(broken(NameRule::Finish))
 }
 
 pub(crate) fn register_call<A: Allocator>(words: Words<'_>) -> Result<Call<A>, LineFault>
     ensures { IsFoundInMemory result (SaysPlain (codes "register") (words_of words.entry.rest.now)) }
 {
-    register(words).ok_or(LineFault::Unlawful(Rule::Register))
+    register(words).ok_or(broken(NameRule::Register))
 }
 
 pub(crate) fn unregister_call<A: Allocator>(words: Words<'_>) -> Result<Call<A>, LineFault>
     ensures { IsFoundInMemory result (SaysPlain (codes "unregister") (words_of words.entry.rest.now)) }
 {
-    unregister(words).ok_or(LineFault::Unlawful(Rule::Unregister))
+    unregister(words).ok_or(broken(NameRule::Unregister))
+}
+
+// The fault of words of names that break a rule.
+fn broken(rule: NameRule) -> LineFault
+    ensures { result ≡ LineFault.Unlawful (Rule.Event (EventRule.Names rule)) }
+{
+    LineFault::Unlawful(Rule::Event(EventRule::Names(rule)))
 }

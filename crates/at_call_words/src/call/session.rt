@@ -1,4 +1,4 @@
-//! The words of a session: which zone is picked, and which of what was found is connected to.
+//! The words of a session: which zone is picked.
 ghost use Rattle.std.specs.Prelude.{codes};
 ghost use Rattle.at_call_words.specs.Calls.{SaysPlain};
 ghost use Rattle.at_call_words.specs.Readings.{IsFoundInMemory};
@@ -6,9 +6,9 @@ ghost use Rattle.at_words.specs.Readings.{IsFound};
 ghost use Rattle.at_words.specs.Words.{words_of};
 
 use crate::words::one;
-use at_event::{Call, SessionCall, StreamCall};
+use at_event::{Call, EventRule, SessionCall, SessionRule};
 use at_faults::{LineFault, Rule};
-use at_words::{Words, number, text};
+use at_words::{Words, text};
 use std::alloc::Allocator;
 
 /// `TEXT`
@@ -19,22 +19,8 @@ fn pick<A: Allocator>(words: Words<'_>) -> Option<Call<A>>
     Some(Call::Session(SessionCall::Pick { zone }))
 }
 
-/// `I`
-fn open<A: Allocator>(words: Words<'_>) -> Option<Call<A>>
-    ensures { IsFound result (SaysPlain (codes "open") (words_of words.entry.rest.now)) }
-{
-    let index = number(one(words)?)?;
-    Some(Call::Streams(StreamCall::Open { index }))
-}
-
 pub(crate) fn pick_call<A: Allocator>(words: Words<'_>) -> Result<Call<A>, LineFault>
     ensures { IsFoundInMemory result (SaysPlain (codes "pick") (words_of words.entry.rest.now)) }
 {
-    pick(words).ok_or(LineFault::Unlawful(Rule::Pick))
-}
-
-pub(crate) fn open_call<A: Allocator>(words: Words<'_>) -> Result<Call<A>, LineFault>
-    ensures { IsFoundInMemory result (SaysPlain (codes "open") (words_of words.entry.rest.now)) }
-{
-    open(words).ok_or(LineFault::Unlawful(Rule::Open))
+    pick(words).ok_or(LineFault::Unlawful(Rule::Event(EventRule::Session(SessionRule::Pick))))
 }

@@ -6,12 +6,20 @@ ghost use Rattle.at_call_words.specs.Readings.{IsFoundInMemory};
 ghost use Rattle.at_words.specs.Readings.{IsFound};
 ghost use Rattle.at_words.specs.Words.{words_of};
 
-use crate::call::items::items_of;
+use crate::call::items::{broken, items_of};
 use crate::words::{one, two};
-use at_event::{Call, StreamCall};
-use at_faults::{LineFault, Rule};
-use at_words::{Words, node_number, two_bytes};
+use at_event::{Call, StreamCall, StreamRule};
+use at_faults::LineFault;
+use at_words::{Words, node_number, number, two_bytes};
 use std::alloc::Allocator;
+
+/// `I`
+fn open<A: Allocator>(words: Words<'_>) -> Option<Call<A>>
+    ensures { IsFound result (SaysPlain (codes "open") (words_of words.entry.rest.now)) }
+{
+    let index = number(one(words)?)?;
+    Some(Call::Streams(StreamCall::Open { index }))
+}
 
 /// `on` or `off`
 fn listen<A: Allocator>(words: Words<'_>) -> Option<Call<A>>
@@ -45,8 +53,8 @@ fn connect<A: Allocator>(words: Words<'_>) -> Option<Call<A>>
 pub(crate) fn write<A: Allocator>(alloc: A, mut words: Words<'_>) -> Result<Call<A>, LineFault>
     ensures { IsFoundInMemory result (SaysPlain (codes "write") (words_of words.entry.rest.now)) }
 {
-    let id = words.next().ok_or(LineFault::Unlawful(Rule::Write))?;
-    let id = two_bytes(id).ok_or(LineFault::Unlawful(Rule::Write))?;
+    let id = words.next().ok_or(broken(StreamRule::Write))?;
+    let id = two_bytes(id).ok_or(broken(StreamRule::Write))?;
     let items = items_of(alloc, words)?;
     Ok(Call::Streams(StreamCall::Write { id, items }))
 }
@@ -77,32 +85,38 @@ fn close<A: Allocator>(words: Words<'_>) -> Option<Call<A>>
     Some(Call::Streams(StreamCall::Close { id }))
 }
 
+pub(crate) fn open_call<A: Allocator>(words: Words<'_>) -> Result<Call<A>, LineFault>
+    ensures { IsFoundInMemory result (SaysPlain (codes "open") (words_of words.entry.rest.now)) }
+{
+    open(words).ok_or(broken(StreamRule::Open))
+}
+
 pub(crate) fn listen_call<A: Allocator>(words: Words<'_>) -> Result<Call<A>, LineFault>
     ensures { IsFoundInMemory result (SaysPlain (codes "listen") (words_of words.entry.rest.now)) }
 {
-    listen(words).ok_or(LineFault::Unlawful(Rule::Listen))
+    listen(words).ok_or(broken(StreamRule::Listen))
 }
 
 pub(crate) fn connect_call<A: Allocator>(words: Words<'_>) -> Result<Call<A>, LineFault>
     ensures { IsFoundInMemory result (SaysPlain (codes "connect") (words_of words.entry.rest.now)) }
 {
-    connect(words).ok_or(LineFault::Unlawful(Rule::Connect))
+    connect(words).ok_or(broken(StreamRule::Connect))
 }
 
 pub(crate) fn read_call<A: Allocator>(words: Words<'_>) -> Result<Call<A>, LineFault>
     ensures { IsFoundInMemory result (SaysPlain (codes "read") (words_of words.entry.rest.now)) }
 {
-    read(words).ok_or(LineFault::Unlawful(Rule::Read))
+    read(words).ok_or(broken(StreamRule::Read))
 }
 
 pub(crate) fn reset_call<A: Allocator>(words: Words<'_>) -> Result<Call<A>, LineFault>
     ensures { IsFoundInMemory result (SaysPlain (codes "reset") (words_of words.entry.rest.now)) }
 {
-    reset(words).ok_or(LineFault::Unlawful(Rule::Reset))
+    reset(words).ok_or(broken(StreamRule::Reset))
 }
 
 pub(crate) fn close_call<A: Allocator>(words: Words<'_>) -> Result<Call<A>, LineFault>
     ensures { IsFoundInMemory result (SaysPlain (codes "close") (words_of words.entry.rest.now)) }
 {
-    close(words).ok_or(LineFault::Unlawful(Rule::Close))
+    close(words).ok_or(broken(StreamRule::Close))
 }

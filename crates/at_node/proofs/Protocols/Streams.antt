@@ -9,7 +9,7 @@ use Rattle.at_adsp_end.specs.Positions.{wire}
 use Rattle.at_adsp_end.specs.Sending.{closing}
 use Rattle.at_adsp_end.specs.declared.fault.StreamFault.{StreamFault}
 use Rattle.at_adsp_end.specs.declared.fault.StreamFault.TheVariants.{NotOpen}
-use Rattle.at_adsp_end.specs.declared.step.Step.{Step}
+use Rattle.at_adsp_end.specs.declared.change.EndChange.{EndChange}
 use Rattle.at_adsp_end.specs.declared.tick.Tick.{Tick}
 use Rattle.at_adsp_ends.specs.Calls.{closed_at, connected, frees, read_at, reset_at, ticked_at, wrote}
 use Rattle.at_adsp_ends.specs.Receiving.{made_id, received, settled}
@@ -39,7 +39,7 @@ use Rattle.at_node.proofs.Drawn.{By, IsDrawn, refused, told_none}
 use Rattle.at_event.specs.declared.streams.StreamTimer.{StreamTimer}
 use Rattle.at_event.specs.Kinds.{Adsp}
 use Rattle.at_adsp_end.specs.Fault as adsp
-use Rattle.at_adsp_end.specs.declared.step.Step.TheVariants as step
+use Rattle.at_adsp_end.specs.declared.change.EndChange.TheVariants as step
 use Rattle.at_adsp_end.specs.declared.tick.Tick.TheVariants as tick
 use Rattle.at_stream_socket.specs.Calls as calls
 use Rattle.at_event.specs.declared.Report.TheVariants as report
@@ -70,7 +70,7 @@ module _ (A : Type 0) where
     plain told none (Ok d) = none d.answer
     plain told none (Err fault) = refused A t (adsp.number_of fault)
 
-    either_none : (b : Bool) (x y : Done Step) → drawn_by {A = A} (told_as x.answer) ≡ None
+    either_none : (b : Bool) (x y : Done EndChange) → drawn_by {A = A} (told_as x.answer) ≡ None
         → drawn_by {A = A} (told_as y.answer) ≡ None → By A (calls.called s t told_as (cond b (Ok x) (Ok y))) None
     either_none true x y none other = none
     either_none false x y none other = other
@@ -93,7 +93,7 @@ module _ (A : Type 0) where
     ticks e tick.Retransmit = idles (is_idle e)
     ticks e tick.Probe = probes e (is_last e tick.Probe)
 
-    unless_closed : (b : Bool) (r : Result (Done Step) StreamFault) → By A (calls.called s t told_as r) None
+    unless_closed : (b : Bool) (r : Result (Done EndChange) StreamFault) → By A (calls.called s t told_as r) None
         → By A (calls.called s t told_as (cond b (Err NotOpen) r)) None
     unless_closed true r none = refl
     unless_closed false r none = none
@@ -101,8 +101,8 @@ module _ (A : Type 0) where
     ticks_at : (x : Tick) (o : Option EndState) → By A (calls.called s t told_as (ticked_at wire t x o)) None
     ticks_at x None = refl
     ticks_at x (Some e) =
-        let first : Done Step = freed t (step.Freed e.id) e in
-        let other : Done Step = settled t (ticked wire e x) in
+        let first : Done EndChange = freed t (step.Freed e.id) e in
+        let other : Done EndChange = settled t (ticked wire e x) in
         unless_closed (is_closed e.phase) (cond (frees e x) (Ok first) (Ok other))
         (either_none (frees e x) first other refl (ticks e x))
 
@@ -130,7 +130,8 @@ module _ (A : Type 0) where
   stream_timer_stays n (adsp_timer.Resend id) = refl
   stream_timer_stays n (adsp_timer.Probe id) = refl
 
-  told_draws : (s : Step) (draw : Draw) → drawn_by {A = A} (told_as s) ≡ Some draw → (id : ℕ) × (made_id s ≡ Some id)
+  told_draws : (s : EndChange) (draw : Draw) → drawn_by {A = A} (told_as s) ≡ Some draw
+      → (id : ℕ) × (made_id s ≡ Some id)
       × (draw ≡ Conn id)
   told_draws step.Ignored draw h = absurd (cc)
   told_draws (step.Made id) draw h = (id, refl, sym (draw_same (Conn id) draw h))
@@ -144,7 +145,7 @@ module _ (A : Type 0) where
   told_draws (step.Closed id) draw h = absurd (cc)
   told_draws (step.Freed id) draw h = absurd (cc)
 
-  pub made_draws : (s : Step) (id : ℕ) → made_id s ≡ Some id → drawn_by {A = A} (told_as s) ≡ Some (Conn id)
+  pub made_draws : (s : EndChange) (id : ℕ) → made_id s ≡ Some id → drawn_by {A = A} (told_as s) ≡ Some (Conn id)
   made_draws (step.Made k) id h = ap (λ x. Some (Conn x)) (nat_same k id h)
   made_draws step.Ignored id h = absurd (cc)
   made_draws (step.Opened k) id h = absurd (cc)

@@ -7,11 +7,11 @@ use Rattle.at_atp_frame.specs.Packets.{Packet}
 use Rattle.at_atp_frame.specs.declared.fault.AtpFault.{AtpFault}
 use Rattle.at_atp_frame.specs.declared.fault.AtpFault.TheVariants.{AtpTooLong}
 use Rattle.at_atp_requester.specs.Requests.{Retried, next_number, retried}
-use Rattle.at_atp_requester.specs.declared.step.Retry.{Retry}
+use Rattle.at_atp_requester.specs.declared.progress.Retry.{Retry}
 use Rattle.at_atp_responder.specs.Records.{answer_fault, expiry_fault, is_key}
 use Rattle.at_atp_responder.specs.declared.reception.Key.{Key}
 use Rattle.at_zip.specs.Tables.{Tables}
-use Rattle.at_zip.specs.declared.request.Which.{Which}
+use Rattle.at_zip.specs.declared.request.TableChoice.{TableChoice}
 use Rattle.at_zip.specs.Zones.{table_fault}
 use Rattle.at_zip.specs.declared.fault.ZipFault.{ZipFault}
 use Rattle.at_event.specs.Outcomes.{Outcome, Through, idle, refused_as, over}
@@ -45,7 +45,7 @@ use Rattle.at_node.proofs.NumberLemmas.{draw_same}
 use Rattle.at_node.proofs.Drawn.{By, IsDrawn, refused}
 use Rattle.at_event.specs.declared.transactions.TransactionTimer.{TransactionTimer}
 use Rattle.at_atp_frame.specs.Fault as atp
-use Rattle.at_atp_requester.specs.declared.step.Retry.TheVariants as retry
+use Rattle.at_atp_requester.specs.declared.progress.Retry.TheVariants as retry
 use Rattle.at_zip.specs.Fault as zip
 use Rattle.at_event.specs.declared.zones.ZoneCall.TheVariants as zone
 use Rattle.at_event.specs.declared.Report.TheVariants as report
@@ -64,12 +64,12 @@ pub record BeginningLaw (A : Type 0) : Type 0 where
 
 module _ (A : Type 0) where
   module _ (s : Seat) (a : AtpState) where
-    begins : (which : Which) (router : ℕ) (o : Option ℕ) → By A (reading_begins s a which router o) (option_map
+    begins : (which : TableChoice) (router : ℕ) (o : Option ℕ) → By A (reading_begins s a which router o) (option_map
         (λ tid. Tid tid) o)
     begins which router None = refl
     begins which router (Some tid) = refl
 
-    reads : (which : Which) (router : Option ℕ) (now : Option Reading) → By A (zones_called s a which router now)
+    reads : (which : TableChoice) (router : Option ℕ) (now : Option Reading) → By A (zones_called s a which router now)
         (cond (is_none router || is_some now) None (option_map (λ tid. Tid tid) (next_number a.transactions.requester)))
     reads which None now = refl
     reads which (Some router) (Some r) = refl
@@ -94,12 +94,12 @@ module _ (A : Type 0) where
     answers key packets None = refl
     answers key packets (Some fault) = refused A a (atp.number_of fault)
 
-    sets : (tables : Tables) (which : Which) (names : List (List ℕ)) (o : Option ZipFault)
+    sets : (tables : Tables) (which : TableChoice) (names : List (List ℕ)) (o : Option ZipFault)
         → By A (over (with_zones a) (table_set a.zones tables which names o)) None
     sets tables which names None = refl
     sets tables which names (Some fault) = refused A a (zip.number_of fault)
 
-    sets_zones : (tables : Option Tables) (which : Which) (names : List (List ℕ))
+    sets_zones : (tables : Option Tables) (which : TableChoice) (names : List (List ℕ))
         → By A (over (with_zones a) (set_zones_called a.zones tables which names)) None
     sets_zones None which names = refl
     sets_zones (Some tables) which names = sets tables which names (table_fault names)

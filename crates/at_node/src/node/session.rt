@@ -1,6 +1,5 @@
 //! What a node does for its user's session: what it keeps of reports, and the calls that use it.
-ghost use Rattle.std.specs.Prelude.{◌≡◌, List};
-ghost use Rattle.at_adsp_ends.specs.Tables.{EndTable};
+ghost use Rattle.std.specs.Prelude.{List};
 ghost use Rattle.at_ddp.specs.Datagrams.{Posted};
 ghost use Rattle.at_event.specs.Outcomes.{IsStep};
 ghost use Rattle.at_node.specs.Nodes.{called};

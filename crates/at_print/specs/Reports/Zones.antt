@@ -2,8 +2,8 @@
 use Rattle.std.specs.Prelude.{ℕ, List, ◌++◌, codes}
 use Rattle.std.specs.List.{flat_map}
 use Rattle.std.specs.Fmt.{decimal}
-use Rattle.at_zip.specs.declared.request.Which.{Which}
-use Rattle.at_zip.specs.declared.request.Which.TheVariants.{All, Local}
+use Rattle.at_zip.specs.declared.request.TableChoice.{TableChoice}
+use Rattle.at_zip.specs.declared.request.TableChoice.TheVariants.{All, Local}
 use Rattle.at_event.specs.declared.zones.ZoneReport.{ZoneReport}
 use Rattle.at_event.specs.declared.zones.ZoneReport.TheVariants as report
 use Rattle.at_print.specs.TextWords.{text_word}
@@ -12,7 +12,7 @@ abbrev pub zone_text : List ℕ → List ℕ
 zone_text zone = codes " " ++ text_word zone
 
 -- the word for a list of the zones of this table
-abbrev pub table_word : Which → List ℕ
+abbrev pub table_word : TableChoice → List ℕ
 table_word All = codes "zones"
 table_word Local = codes "localzones"
 

@@ -1,15 +1,18 @@
-//! How the reports and timers of names print.
-ghost use Rattle.std.specs.Prelude.{◌≤◌, ◌++◌, codes, length};
+//! How the reports and timers of names print, and the data of NBP's datagrams.
+ghost use Rattle.std.specs.Prelude.{◌≡◌, ◌↔◌, ◌≤◌, ◌++◌, IfErr, IsOk, List, ℕ, codes, length};
 ghost use Rattle.std.specs.List.{flat_map};
 ghost use Rattle.at_print.specs.Printers.{Prints};
+ghost use Rattle.at_event.specs.Kinds.{number_of};
+ghost use Rattle.at_print.specs.Refusals.{refusal_line};
+ghost use Rattle.at_print.specs.Reports.Names.{IsNames, NamesText};
 ghost use Rattle.at_print.specs.Reports.Names.{find_text, found_text, name_report_text, name_timer_text};
 
-use crate::name_lines::write_name;
+use crate::name_lines::{write_name, write_names};
 use crate::paper::Paper;
 use crate::part::Part;
 use crate::piece::{HEAD, Piece, TIMER, end_with_number, end_with_word};
 use crate::printer::Printer;
-use at_event::{NameReport, NameTimer};
+use at_event::{NameReport, NameTimer, Reason};
 use at_nbp::Find;
 use std::alloc::Allocator;
 
@@ -100,5 +103,25 @@ pub(crate) fn write_name_timer<W: Paper>(
 {
     match timer {
         NameTimer::Lookup { id } => end_with_number(printer, line, b"lookup ", u64::from(id)),
+    }
+}
+
+/// Prints the NBP packet with which the data of a datagram begin, and passes over what follows it.
+pub(crate) fn write_name_data<W: Paper>(
+    printer: &mut Printer<W>,
+    bytes: &[u8],
+) -> Result<(), Reason>
+    ensures done { IsOk result ↔ IsNames bytes.now }
+    ensures printed { IsOk result → (text : List ℕ) × NamesText bytes.now text
+        × Prints W.page printer.old printer.new text }
+    ensures refused { IfErr result (λ reason. NamesText bytes.now (refusal_line (number_of reason))
+        × (printer.new ≡ printer.old)) }
+{
+    match at_nbp::decode(bytes) {
+        Ok((packet, _)) => {
+            write_names(printer, &packet);
+            Ok(())
+        }
+        Err(fault) => Err(Reason::OfNames(fault)),
     }
 }

@@ -1,17 +1,20 @@
-//! How the reports and timers of streams print.
+//! How the reports and timers of streams print, and the data of ADSP's datagrams.
 ghost use Rattle.std.specs.Prelude.{◌≡◌, ◌<◌, ◌≤◌, ◌++◌, [], List, ℕ, codes, drop, false, length, map, take};
-ghost use Rattle.std.specs.Prelude.{if◌then◌else◌};
+ghost use Rattle.std.specs.Prelude.{◌↔◌, if◌then◌else◌, IfErr, IsOk};
 ghost use Rattle.std.specs.Fmt.{decimal};
 ghost use Rattle.at_print.specs.Items.{items_text, starts_with_byte};
 ghost use Rattle.at_print.specs.Printers.{Prints};
-ghost use Rattle.at_print.specs.Reports.Streams.{stream_text, stream_timer_text};
+ghost use Rattle.at_event.specs.Kinds.{number_of};
+ghost use Rattle.at_print.specs.Refusals.{refusal_line};
+ghost use Rattle.at_print.specs.Reports.Streams.{IsSegment, SegmentText, stream_text, stream_timer_text};
 
 use crate::digits::{BLOCK, write_pairs};
 use crate::paper::Paper;
 use crate::piece::{HEAD, Piece, TIMER, end_with_number, end_with_word};
 use crate::printer::Printer;
+use crate::segment_lines::write_segment;
 use at_adsp_end::Item;
-use at_event::{StreamReport, StreamTimer};
+use at_event::{Reason, StreamReport, StreamTimer};
 use std::alloc::Allocator;
 
 /// The line that begins with this piece, and ends with a report of streams.
@@ -139,5 +142,25 @@ pub(crate) fn write_stream_timer<W: Paper>(
     match timer {
         StreamTimer::Resend { id } => end_with_number(printer, line, b"resend ", u64::from(id)),
         StreamTimer::Probe { id } => end_with_number(printer, line, b"probe ", u64::from(id)),
+    }
+}
+
+/// Prints the ADSP segment that the data of a datagram are.
+pub(crate) fn write_stream_data<W: Paper>(
+    printer: &mut Printer<W>,
+    bytes: &[u8],
+) -> Result<(), Reason>
+    ensures done { IsOk result ↔ IsSegment bytes.now }
+    ensures printed { IsOk result → (text : List ℕ) × SegmentText bytes.now text
+        × Prints W.page printer.old printer.new text }
+    ensures refused { IfErr result (λ reason. SegmentText bytes.now (refusal_line (number_of reason))
+        × (printer.new ≡ printer.old)) }
+{
+    match at_adsp_frame::decode(bytes) {
+        Ok(segment) => {
+            write_segment(printer, &segment);
+            Ok(())
+        }
+        Err(fault) => Err(Reason::OfSegments(fault)),
     }
 }

@@ -1,20 +1,24 @@
-//! How the reports and timers of transactions print.
-ghost use Rattle.std.specs.Prelude.{◌≡◌, ◌≤◌, ◌++◌, codes, length};
+//! How the reports and timers of transactions print, and the data of ATP's datagrams.
+ghost use Rattle.std.specs.Prelude.{◌≡◌, ◌↔◌, ◌≤◌, ◌++◌, IfErr, IsOk, List, ℕ, codes, length};
 ghost use Rattle.std.specs.Fmt.{decimal};
 ghost use Rattle.std.specs.List.{flat_map};
 ghost use Rattle.at_print.specs.Lines.{hex_text};
 ghost use Rattle.at_print.specs.Printers.{Prints};
+ghost use Rattle.at_event.specs.Kinds.{number_of};
+ghost use Rattle.at_print.specs.Refusals.{refusal_line};
+ghost use Rattle.at_print.specs.Reports.Transactions.{IsPacket, PacketText};
 ghost use Rattle.at_print.specs.Reports.Transactions.{packet_text, transaction_text, transaction_text_at};
 ghost use Rattle.at_print.specs.Reports.Transactions.{transaction_timer_text};
 ghost use Rattle.at_print.specs.Requesters.{asked_by};
 
 use crate::digits::write_hex;
+use crate::packet_lines::write_frame;
 use crate::paper::Paper;
 use crate::piece::{HEAD, Piece, TIMER, end_with_number, end_with_word};
 use crate::printer::Printer;
 use crate::requesters::{other_net, put_key};
 use at_atp::{Key, Packet};
-use at_event::{TransactionReport, TransactionTimer};
+use at_event::{Reason, TransactionReport, TransactionTimer};
 use std::alloc::Allocator;
 
 /// The line that begins with this piece, and ends with a report of transactions on network `net`.
@@ -158,4 +162,24 @@ fn write_release<W: Paper>(printer: &mut Printer<W>, line: &mut Piece, net: u16,
     put_key(line, other_net(net, key), key);
     line.put(b"\n");
     printer.write_all(line.text());
+}
+
+/// Prints the ATP packet that the data of a datagram are.
+pub(crate) fn write_transaction_data<W: Paper>(
+    printer: &mut Printer<W>,
+    bytes: &[u8],
+) -> Result<(), Reason>
+    ensures done { IsOk result ↔ IsPacket bytes.now }
+    ensures printed { IsOk result → (text : List ℕ) × PacketText bytes.now text
+        × Prints W.page printer.old printer.new text }
+    ensures refused { IfErr result (λ reason. PacketText bytes.now (refusal_line (number_of reason))
+        × (printer.new ≡ printer.old)) }
+{
+    match at_atp::decode(bytes) {
+        Ok(frame) => {
+            write_frame(printer, &frame);
+            Ok(())
+        }
+        Err(fault) => Err(Reason::OfTransactions(fault)),
+    }
 }

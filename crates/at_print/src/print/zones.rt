@@ -10,7 +10,7 @@ use crate::printer::Printer;
 use crate::text_words::write_text;
 use at_ddp::Pascal;
 use at_event::ZoneReport;
-use at_zip::Which;
+use at_zip::TableChoice;
 use std::alloc::Allocator;
 
 /// The line that begins with this piece, and ends with a report of zones.
@@ -33,7 +33,12 @@ pub(crate) fn write_zone_report<A: Allocator, W: Paper>(
     }
 }
 
-fn write_zones<W: Paper>(printer: &mut Printer<W>, line: &mut Piece, which: Which, zones: &[Pascal])
+fn write_zones<W: Paper>(
+    printer: &mut Printer<W>,
+    line: &mut Piece,
+    which: TableChoice,
+    zones: &[Pascal],
+)
     requires { length line.old ≤ HEAD }
     ensures { Prints W.page printer.old printer.new
         (line.old ++ ((table_word which ++ flat_map zone_text zones.now) ++ codes "\n")) }
@@ -45,13 +50,13 @@ fn write_zones<W: Paper>(printer: &mut Printer<W>, line: &mut Piece, which: Whic
 }
 
 // The word for a list of the zones of this table.
-fn table_word(which: Which) -> &'static [u8]
+fn table_word(which: TableChoice) -> &'static [u8]
     ensures word { result.now ≡ table_word which }
     ensures short { length result.now ≤ 10 }
 {
     match which {
-        Which::All => b"zones",
-        Which::Local => b"localzones",
+        TableChoice::All => b"zones",
+        TableChoice::Local => b"localzones",
     }
 }
 

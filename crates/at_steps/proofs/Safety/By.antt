@@ -10,7 +10,7 @@ use Rattle.at_event.specs.declared.Report.{Report}
 use Rattle.at_event.specs.declared.Report.TheVariants as report
 use Rattle.at_event.specs.declared.zones.ZoneReport.TheVariants as zip_report
 use Rattle.at_node.specs.Nodes.{NodeState}
-use Rattle.at_steps.specs.Safety.{IsSafe, IsTrueOf, Place, number_told}
+use Rattle.at_steps.specs.Safety.{IsSafe, IsTrueOf, TransactionTable, number_told}
 use Rattle.at_event.specs.declared.Reason.TheVariants.{OfZones}
 use Rattle.at_event.specs.declared.Reason.{Reason}
 use Rattle.at_event.specs.Kinds.{number_of}
@@ -36,7 +36,7 @@ module _ (A : Type 0) where
   not_refused : (r : Report A) (k : ℕ) → number_told r ≡ None → r ≡ report.Refused k → ⊥
   not_refused r k none is = let told : number_told r ≡ Some k = ap number_told is in cc
 
-  module _ (Wants : Place → Type 0) (n : NodeState) {S : Type 0} (old : S) where
+  module _ (Wants : TransactionTable → Type 0) (n : NodeState) {S : Type 0} (old : S) where
     abbrev Safe : Outcome A S → Type 0
     Safe o = IsSafe Wants n old o
 
@@ -85,7 +85,8 @@ module _ (A : Type 0) where
     }
 
   -- a part and the whole
-  pub through : (Wants : Place → Type 0) (n : NodeState) {S : Type 0} (f : S → NodeState) (old : S) (o : Outcome A S)
+  pub through : (Wants : TransactionTable → Type 0) (n : NodeState) {S : Type 0} (f : S
+      → NodeState) (old : S) (o : Outcome A S)
       → f old ≡ n → IsSafe Wants n old o → IsSafe Wants n n (over f o)
   through Wants n f old o whole safe = record {
     reason = safe.reason;

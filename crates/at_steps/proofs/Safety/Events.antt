@@ -10,12 +10,12 @@ use Rattle.at_event.specs.declared.service.Reply.{Reply}
 use Rattle.at_node.specs.Hearing.{Hears, HearsIt}
 use Rattle.at_node.specs.Limits.{IsWithin}
 use Rattle.at_node.specs.Nodes.{HearsMine, NodeState}
-use Rattle.at_steps.specs.Safety.{IsPlaceOf, IsSafe, Place, Records}
+use Rattle.at_steps.specs.Safety.{IsTableOf, IsSafe, TransactionTable, Records}
 use Rattle.at_steps.proofs.Protocols.{SafetyLaws, ignored_safe, mine_safe}
 use Rattle.at_steps.proofs.Safety.By.{faulted}
 
 module _ (A : Type 0) (laws : SafetyLaws) (n : NodeState) (within : IsWithin n) (said : Reply A) where
-  it_safe : (Wants : Place → Type 0) (d : Datagram) (o : Outcome A NodeState) → Wants (Records d.to.socket)
+  it_safe : (Wants : TransactionTable → Type 0) (d : Datagram) (o : Outcome A NodeState) → Wants (Records d.to.socket)
       → HearsIt said n d o → IsSafe Wants n n o
   it_safe Wants d o here = go (is_for_all n.seat d.kind d.to || is_mine n.seat d.to)
     where
@@ -24,14 +24,14 @@ module _ (A : Type 0) (laws : SafetyLaws) (n : NodeState) (within : IsWithin n) 
       go false h = ignored_safe A laws n within Wants said d o h
 
   pub datagram_safe : (bytes : List ℕ) (o : Outcome A NodeState) → Hears said n bytes o
-      → IsSafe (IsPlaceOf bytes) n n o
+      → IsSafe (IsTableOf bytes) n n o
   datagram_safe bytes o (inl h) =
-      let here : IsPlaceOf bytes (Records h.datagram.to.socket) = record {
+      let here : IsTableOf bytes (Records h.datagram.to.socket) = record {
         datagram = h.datagram;
         rest = h.rest;
         begins = h.begins;
         there = refl;
       } in
-      it_safe (IsPlaceOf bytes) h.datagram o here h.outcome
+      it_safe (IsTableOf bytes) h.datagram o here h.outcome
   datagram_safe bytes o (inr h) =
-      faulted A (IsPlaceOf bytes) n n (OfDatagrams h.fault) h.number o tt h.numbered h.outcome
+      faulted A (IsTableOf bytes) n n (OfDatagrams h.fault) h.number o tt h.numbered h.outcome

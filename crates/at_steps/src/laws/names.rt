@@ -11,7 +11,7 @@ ghost use Rattle.at_nbp.specs.declared.function.Function.TheVariants as function
 ghost use Rattle.at_event.specs.Kinds.{IsCall};
 ghost use Rattle.at_node.specs.Numbers.{Carries};
 ghost use Rattle.at_node.specs.Hearing.{Hears};
-ghost use Rattle.at_event.specs.Kinds.{kind_of_call, kind_of_timer};
+ghost use Rattle.at_event.specs.Kinds.{speaker_of_call, speaker_of_timer};
 ghost use Rattle.at_node.specs.Nodes.{NodeState, called, timed};
 ghost use Rattle.at_event.specs.Outcomes.{Outcome};
 ghost use Rattle.at_node.specs.declared.numbers.Draw.TheVariants.{Lookup};
@@ -26,7 +26,7 @@ use std::alloc::Allocator;
 /// A call of NBP is one happening among names and lookups.
 pub fn a_call_is_a_happening<A: Allocator>()
     ensures { (setting : Setting) (history : List Happening) (n : NodeState) (call : Call A)
-        → Stands setting history n.seat.net n.seat.number n → IsCall call → is_nbp (kind_of_call call) ≡ true
+        → Stands setting history n.seat.net n.seat.number n → IsCall call → is_nbp (speaker_of_call call) ≡ true
         → IsHappening setting history n.seat.net n.seat.number n (Calls call) (called n call) }
 {
     at_nbp::laws::finds_stood_since_their_lookup_began();
@@ -38,7 +38,7 @@ pub fn a_call_is_a_happening<A: Allocator>()
 /// A timer of NBP that fires is one happening among names and lookups.
 pub fn a_timer_is_a_happening<A: Allocator>()
     ensures { (setting : Setting) (history : List Happening) (n : NodeState) (time : Timer)
-        → Stands setting history n.seat.net n.seat.number n → is_nbp (kind_of_timer time) ≡ true
+        → Stands setting history n.seat.net n.seat.number n → is_nbp (speaker_of_timer time) ≡ true
         → IsHappening {A = A} setting history n.seat.net n.seat.number n (Fires time) (timed n time) }
 {
     at_nbp::laws::finds_stood_since_their_lookup_began();
@@ -48,12 +48,12 @@ pub fn a_timer_is_a_happening<A: Allocator>()
 
 /// A packet that comes to a node is one happening among names and lookups. A reply has to come in time.
 pub fn a_packet_is_a_happening<A: Allocator>()
-    ensures { (setting : Setting) (history : List Happening) (n : NodeState) (which : ℕ) (s : Sent) (said : Reply A)
+    ensures { (setting : Setting) (history : List Happening) (n : NodeState) (datagram : ℕ) (s : Sent) (said : Reply A)
         (o : Outcome A NodeState) → Stands setting history n.seat.net n.seat.number n
-        → packet_at (after setting history).sent which ≡ Some s
+        → packet_at (after setting history).sent datagram ≡ Some s
         → (s.packet.function ≡ function.Reply → is_fresh (after setting history).begun s ≡ true)
         → Hears said n (canonical s.to s.from nbp_kind (spelling s.packet)) o
-        → IsHappening setting history n.seat.net n.seat.number n (Gets which) o }
+        → IsHappening setting history n.seat.net n.seat.number n (Gets datagram) o }
 {
     at_ddp::laws::what_is_written_is_read();
     at_nbp::laws::what_is_written_is_read();
@@ -72,13 +72,13 @@ pub fn another_protocols_step_passes<A: Allocator>()
 
 /// An event of another protocol leaves the socket for names as it was, and sends no packet of NBP.
 pub fn another_protocols_event_is_foreign<A: Allocator>()
-    ensures call { (n : NodeState) (call : Call A) → is_nbp (kind_of_call call) ≡ false
+    ensures call { (n : NodeState) (call : Call A) → is_nbp (speaker_of_call call) ≡ false
         → IsForeign n (Calls call) (called n call) }
-    ensures timer { (n : NodeState) (time : Timer) → is_nbp (kind_of_timer time) ≡ false
+    ensures timer { (n : NodeState) (time : Timer) → is_nbp (speaker_of_timer time) ≡ false
         → IsForeign {A = A} n (Fires time) (timed n time) }
-    ensures datagram { (n : NodeState) (which : ℕ) (to from : Address) (kind : ℕ) (bytes : List ℕ) (said : Reply A)
+    ensures datagram { (n : NodeState) (datagram : ℕ) (to from : Address) (kind : ℕ) (bytes : List ℕ) (said : Reply A)
         (o : Outcome A NodeState) → (kind == nbp_kind) ≡ false → Hears said n (canonical to from kind bytes) o
-        → IsForeign n (Gets which) o }
+        → IsForeign n (Gets datagram) o }
 {
     at_ddp::laws::the_protocol_is_read_as_written();
 }

@@ -18,6 +18,6 @@ pub fn an_event_is_a_step_of_the_session<A: Allocator>()
         → IsStep n.session (Calls call) (called n call).report (called n call).state.session }
     ensures timer { (n : NodeState) (time : Timer)
         → IsStep {A = A} n.session (Fires time) (timed {A = A} n time).report (timed {A = A} n time).state.session }
-    ensures datagram { (n : NodeState) (which : ℕ) (bytes : List ℕ) (said : Reply A) (o : Outcome A NodeState)
-        → Hears said n bytes o → IsStep n.session (Gets which) o.report o.state.session }
+    ensures datagram { (n : NodeState) (datagram : ℕ) (bytes : List ℕ) (said : Reply A) (o : Outcome A NodeState)
+        → Hears said n bytes o → IsStep n.session (Gets datagram) o.report o.state.session }
 {}

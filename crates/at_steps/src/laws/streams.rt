@@ -16,7 +16,7 @@ ghost use Rattle.at_adsp_end.specs.declared.item.Item.{Item};
 ghost use Rattle.at_event.specs.Kinds.{IsCall};
 ghost use Rattle.at_node.specs.Numbers.{Carries, drawn_by, holds};
 ghost use Rattle.at_node.specs.Hearing.{Hears};
-ghost use Rattle.at_event.specs.Kinds.{kind_of_call, kind_of_timer};
+ghost use Rattle.at_event.specs.Kinds.{speaker_of_call, speaker_of_timer};
 ghost use Rattle.at_node.specs.Nodes.{NodeState, called, timed};
 ghost use Rattle.at_event.specs.Outcomes.{Outcome};
 ghost use Rattle.at_node.specs.declared.numbers.Draw.TheVariants.{Conn};
@@ -36,7 +36,7 @@ use std::alloc::Allocator;
 /// A call of ADSP is one happening among ends of streams, if no end has the identifier that it draws as its remote.
 pub fn a_call_is_a_happening<A: Allocator>()
     ensures { (setting : Setting) (history : List Happening) (n : NodeState) (call : Call A)
-        → Stands setting history n.seat.net n.seat.number n → IsCall call → is_adsp (kind_of_call call) ≡ true
+        → Stands setting history n.seat.net n.seat.number n → IsCall call → is_adsp (speaker_of_call call) ≡ true
         → ((id : ℕ) → drawn_by (called n call).report ≡ Some (Conn id)
         → NoneNames (after setting history) (streams_at n.seat.net n.seat.number) id)
         → IsHappening setting history n.seat.net n.seat.number n (Calls call) (called n call) }
@@ -48,7 +48,7 @@ pub fn a_call_is_a_happening<A: Allocator>()
 /// A timer of ADSP that fires is one happening among ends of streams.
 pub fn a_timer_is_a_happening<A: Allocator>()
     ensures { (setting : Setting) (history : List Happening) (n : NodeState) (time : Timer)
-        → Stands setting history n.seat.net n.seat.number n → is_adsp (kind_of_timer time) ≡ true
+        → Stands setting history n.seat.net n.seat.number n → is_adsp (speaker_of_timer time) ≡ true
         → IsHappening {A = A} setting history n.seat.net n.seat.number n (Fires time) (timed n time) }
 {
     at_adsp::laws::streams_change_by_one();
@@ -58,13 +58,13 @@ pub fn a_timer_is_a_happening<A: Allocator>()
 /// A segment in time that comes to a node is one happening among ends of streams, if no end has the identifier that it
 /// makes the node draw as its remote.
 pub fn a_packet_is_a_happening<A: Allocator>()
-    ensures { (setting : Setting) (history : List Happening) (n : NodeState) (which : ℕ) (s : Sent) (said : Reply A)
+    ensures { (setting : Setting) (history : List Happening) (n : NodeState) (datagram : ℕ) (s : Sent) (said : Reply A)
         (o : Outcome A NodeState) → Stands setting history n.seat.net n.seat.number n
-        → packet_at (after setting history).sent which ≡ Some s → is_fresh (after setting history).made s ≡ true
+        → packet_at (after setting history).sent datagram ≡ Some s → is_fresh (after setting history).made s ≡ true
         → ((id : ℕ) → drawn_by o.report ≡ Some (Conn id)
         → NoneNames (after setting history) (streams_at n.seat.net n.seat.number) id)
         → Hears said n (canonical s.to s.from adsp_kind (spelled s.packet)) o
-        → IsHappening setting history n.seat.net n.seat.number n (Gets which) o }
+        → IsHappening setting history n.seat.net n.seat.number n (Gets datagram) o }
 {
     at_ddp::laws::what_is_written_is_read();
     at_adsp::laws::what_is_written_is_read();
@@ -105,13 +105,13 @@ pub fn another_protocols_step_passes<A: Allocator>()
 
 /// An event of another protocol leaves the socket for streams as it was, and sends no segment.
 pub fn another_protocols_event_is_foreign<A: Allocator>()
-    ensures call { (n : NodeState) (call : Call A) → is_adsp (kind_of_call call) ≡ false
+    ensures call { (n : NodeState) (call : Call A) → is_adsp (speaker_of_call call) ≡ false
         → IsForeign n (Calls call) (called n call) }
-    ensures timer { (n : NodeState) (time : Timer) → is_adsp (kind_of_timer time) ≡ false
+    ensures timer { (n : NodeState) (time : Timer) → is_adsp (speaker_of_timer time) ≡ false
         → IsForeign {A = A} n (Fires time) (timed n time) }
-    ensures datagram { (n : NodeState) (which : ℕ) (to from : Address) (kind : ℕ) (bytes : List ℕ) (said : Reply A)
+    ensures datagram { (n : NodeState) (datagram : ℕ) (to from : Address) (kind : ℕ) (bytes : List ℕ) (said : Reply A)
         (o : Outcome A NodeState) → (kind == adsp_kind) ≡ false → Hears said n (canonical to from kind bytes) o
-        → IsForeign n (Gets which) o }
+        → IsForeign n (Gets datagram) o }
 {
     at_ddp::laws::the_protocol_is_read_as_written();
 }

@@ -8,10 +8,10 @@ use Rattle.at_atp_responder.specs.declared.reception.Key.{Key}
 use Rattle.at_zip.specs.Reading.{BeginsTable}
 use Rattle.at_zip.specs.Tables.{Tables, table_of, with_table}
 use Rattle.at_zip.specs.Zones.{IsTable}
-use Rattle.at_zip.specs.declared.request.Which.{Which}
+use Rattle.at_zip.specs.declared.request.TableChoice.{TableChoice}
 use Rattle.at_transaction_socket.specs.TransactionSockets.{asking, serving}
 use Rattle.at_zone_socket.specs.ZoneSockets.{zones_at}
-use Rattle.at_event.specs.Kinds.{Kind, Atp}
+use Rattle.at_event.specs.Kinds.{Speaker, Atp}
 use Rattle.at_event.specs.declared.Call.TheVariants.{Transactions, Zones}
 use Rattle.at_event.specs.declared.transactions.TransactionCall.TheVariants.{Ask, Answer}
 use Rattle.at_event.specs.declared.zones.ZoneCall.TheVariants as zone
@@ -31,7 +31,7 @@ use Rattle.at_setup.specs.Setups.{tables_of}
 -- a node reads a zone table since this moment
 pub record Reading : Type 0 where
   pub node : ℕ
-  pub which : Which
+  pub which : TableChoice
   pub since : ℕ
 
 -- A moment is the state after an event. The first moment is the opening state.
@@ -55,7 +55,7 @@ abbrev pub reading_of : List Reading → ℕ → Option Reading
 reading_of rs node = find (λ r. r.node == node) rs
 
 -- a node reads this table since this moment
-abbrev pub ReadsSince : List Reading → ℕ → Which → ℕ → Type 0
+abbrev pub ReadsSince : List Reading → ℕ → TableChoice → ℕ → Type 0
 ReadsSince rs node which since = reading_of rs node ≡ Some (record { node = node; which = which; since = since })
 
 -- the readings of the other nodes
@@ -63,14 +63,14 @@ abbrev pub without_reading : List Reading → ℕ → List Reading
 without_reading rs node = filter (λ r. not (r.node == node)) rs
 
 -- the table of this kind was this one at every moment from that one on
-abbrev pub StoodSince : List Tables → ℕ → Which → List (List ℕ) → Type 0
+abbrev pub StoodSince : List Tables → ℕ → TableChoice → List (List ℕ) → Type 0
 StoodSince past since which table = (moment : ℕ) (tables : Tables) → since ≤ moment
     → slice_get past moment ≡ Some tables → table_of which tables ≡ table
 
 -- ---- the steps, one for each report
 
 -- a reading of a zone table begins: the node asks the router for the first page
-pub record BeginsReading (c : Cable) (m : AtpMachine) (node : ℕ) (which : Which) (tid : ℕ) (m' : AtpMachine)
+pub record BeginsReading (c : Cable) (m : AtpMachine) (node : ℕ) (which : TableChoice) (tid : ℕ) (m' : AtpMachine)
     : Type 0 where
   pub router : ℕ
   pub is_router : c.router ≡ Some router
@@ -84,7 +84,7 @@ pub record BeginsReading (c : Cable) (m : AtpMachine) (node : ℕ) (which : Whic
 pub record GoesOn (c : Cable) (m : AtpMachine) (node tid : ℕ) (m' : AtpMachine) : Type 0 where
   pub router : ℕ
   pub is_router : c.router ≡ Some router
-  pub which : Which
+  pub which : TableChoice
   pub since : ℕ
   pub began : ReadsSince m.readings node which since
   pub names : List (List ℕ)
@@ -95,7 +95,8 @@ pub record GoesOn (c : Cable) (m : AtpMachine) (node tid : ℕ) (m' : AtpMachine
   })
 
 -- the router gets another zone table in the place of one
-pub record SetsTable (c : Cable) (m : AtpMachine) (node : ℕ) (which : Which) (names : List (List ℕ)) (m' : AtpMachine)
+pub record SetsTable (c : Cable) (m : AtpMachine) (node : ℕ) (which : TableChoice) (names : List (List ℕ))
+    (m' : AtpMachine)
     : Type 0 where
   pub is_router : c.router ≡ Some node
   pub is_table : IsTable names
@@ -125,7 +126,7 @@ pub record IsAnswered (c : Cable) (m : AtpMachine) (node tid : ℕ) (packets : L
 
 -- A transaction may ask the router for this page: the one that a reading asks for, or any page, by the user bytes of a
 -- call. Which page those spell is said in Agreements.
-abbrev pub MayAskFor : Asks → Which → ℕ → Type 0
+abbrev pub MayAskFor : Asks → TableChoice → ℕ → Type 0
 MayAskFor (ForPage kind from) which start = (kind ≡ which) × (from ≡ start)
 MayAskFor (ForService user bytes) which start = Unit {0}
 
@@ -136,7 +137,7 @@ pub record Serves (c : Cable) (m : AtpMachine) (node count : ℕ) (m' : AtpMachi
   pub requester : Address
   pub tid : ℕ
   pub asked : Asked m.asked requester tid (zones_at c.net node)
-  pub which : Which
+  pub which : TableChoice
   pub start : ℕ
   pub asks_from : MayAskFor (asked.transaction).asks which start
   pub one : count ≤ 1
@@ -146,7 +147,7 @@ pub record Serves (c : Cable) (m : AtpMachine) (node count : ℕ) (m' : AtpMachi
 
 -- a reading ends: the zones that are reported are the table that it asked for, if that was the same at every moment
 -- since the reading began
-pub record EndsReading (m : AtpMachine) (node : ℕ) (which : Which) (names : List (List ℕ)) (m' : AtpMachine)
+pub record EndsReading (m : AtpMachine) (node : ℕ) (which : TableChoice) (names : List (List ℕ)) (m' : AtpMachine)
     : Type 0 where
   pub since : ℕ
   pub began : ReadsSince m.readings node which since
@@ -155,7 +156,7 @@ pub record EndsReading (m : AtpMachine) (node : ℕ) (which : Which) (names : Li
 
 -- a reading ends without a list
 pub record FailsReading (m : AtpMachine) (node : ℕ) (m' : AtpMachine) : Type 0 where
-  pub which : Which
+  pub which : TableChoice
   pub since : ℕ
   pub began : ReadsSince m.readings node which since
   pub becomes : m' ≡ next (record m { readings = without_reading m.readings node })
@@ -187,6 +188,6 @@ Says c m (event.Timer node timer) (report.Zones zip_report.Unanswered) m' = Fail
 Says c m e r m' = ⊥
 
 -- at a report of another protocol, or of nobody, a moment passes
-abbrev pub StepBy : {A : Type 0} → Cable → AtpMachine → Event A → Report A → AtpMachine → Kind → Type 0
+abbrev pub StepBy : {A : Type 0} → Cable → AtpMachine → Event A → Report A → AtpMachine → Speaker → Type 0
 StepBy c m e r m' Atp = Says c m e r m'
 StepBy c m e r m' other = m' ≡ next m

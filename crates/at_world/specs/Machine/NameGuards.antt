@@ -12,7 +12,7 @@ use Rattle.at_nbp.specs.declared.name.Name.{Name}
 use Rattle.at_nbp.specs.declared.names.Registered.{Registered}
 use Rattle.at_name_socket.specs.NameSockets.{any_pattern, names_of, own_zone}
 use Rattle.at_name_socket.specs.declared.claim.Claim.{Claim as Claimed}
-use Rattle.at_event.specs.Kinds.{Kind, Nbp}
+use Rattle.at_event.specs.Kinds.{Speaker, Nbp}
 use Rattle.at_event.specs.declared.Call.TheVariants.{Names}
 use Rattle.at_event.specs.declared.names.NameCall.TheVariants.{Find, Claim, Finish, Register, Unregister}
 use Rattle.at_event.specs.declared.Report.{Report}
@@ -26,7 +26,7 @@ use Rattle.at_setup.specs.declared.setup.NodeSetup.{NodeSetup}
 use Rattle.at_setup.specs.declared.setup.Setup.{Setup}
 
 -- an open lookup of a node, with what it asks for, the claim that it is, if it is one, and the moment of its beginning
-pub record Lookup : Type 0 where
+pub record OpenLookup : Type 0 where
   pub node : ℕ
   pub id : ℕ
   pub pattern : Name
@@ -41,7 +41,7 @@ Directory = ℕ → Table
 pub record NameMachine : Type 0 where
   pub names : Directory
   pub past : List Directory  -- the names at each moment so far, this one included
-  pub lookups : List Lookup  -- newest first
+  pub lookups : List OpenLookup  -- newest first
 
 -- the zone of a node's names: `*` for a node without a zone, as for a number that no node has
 abbrev pub zone_at : List NodeSetup → ℕ → List ℕ
@@ -65,15 +65,15 @@ with_names m node table = record m { names = λ k. if node == k then table else 
 
 -- ---- lookups
 
-abbrev pub is_lookup : ℕ → ℕ → Lookup → Bool
+abbrev pub is_lookup : ℕ → ℕ → OpenLookup → Bool
 is_lookup node id l = (l.node == node) && (l.id == id)
 
 -- the lookup of a node that is open under this identifier
-abbrev pub lookup_of : List Lookup → ℕ → ℕ → Option Lookup
+abbrev pub lookup_of : List OpenLookup → ℕ → ℕ → Option OpenLookup
 lookup_of ls node id = find (is_lookup node id) ls
 
 -- all others
-abbrev pub without_lookup : List Lookup → ℕ → ℕ → List Lookup
+abbrev pub without_lookup : List OpenLookup → ℕ → ℕ → List OpenLookup
 without_lookup ls node id = filter (λ l. not (is_lookup node id l)) ls
 
 -- what is found was a name of some node at some moment since then, as a lookup with this pattern reads it
@@ -88,12 +88,12 @@ pub record Stood (past : List Directory) (since : ℕ) (pattern : Name) (f : Fou
   pub is : f ≡ find_of pattern (entry_in (directory node) name)
 
 -- what a lookup may have found: at most 256 names that differ and match its pattern, each of which stood since it began
-pub record Finds (past : List Directory) (l : Lookup) (finds : List Found) : Type 0 where
+pub record Finds (past : List Directory) (l : OpenLookup) (finds : List Found) : Type 0 where
   pub lawful : IsSearch (record { id = l.id; pattern = l.pattern; finds = finds })
   pub stood : AllByRecursion (Stood past l.since l.pattern) finds
 
 -- who may have the name of a claim: one that its lookup may have found, or the node itself, which has such a name now
-abbrev pub IsTaken : NameMachine → ℕ → Lookup → Claimed → Found → Type 0
+abbrev pub IsTaken : NameMachine → ℕ → OpenLookup → Claimed → Found → Type 0
 IsTaken m node l claim owner = Finds m.past l (owner ∷ [])
     ⊎ ((name : Registered) × (find (is_called claim.object claim.kind) (m.names node).names ≡ Some name)
     × (owner ≡ own_find (m.names node) name))
@@ -110,7 +110,7 @@ pub record BeginsLookup (m : NameMachine) (node id : ℕ) (pattern : Name) (clai
 
 -- a lookup ends, which is no claim
 pub record EndsLookup (m : NameMachine) (node id : ℕ) (finds : List Found) (m' : NameMachine) : Type 0 where
-  pub lookup : Lookup
+  pub lookup : OpenLookup
   pub stands : lookup_of m.lookups node id ≡ Some lookup
   pub claims : lookup.claim ≡ None
   pub tells : Finds m.past lookup finds
@@ -126,7 +126,7 @@ pub record RegistersName (m : NameMachine) (node : ℕ) (object kind : List ℕ)
 
 -- a claim ends, and its name is registered
 pub record EndsClaim (m : NameMachine) (node id : ℕ) (m' : NameMachine) : Type 0 where
-  pub lookup : Lookup
+  pub lookup : OpenLookup
   pub stands : lookup_of m.lookups node id ≡ Some lookup
   pub claim : Claimed
   pub claims : lookup.claim ≡ Some claim
@@ -135,7 +135,7 @@ pub record EndsClaim (m : NameMachine) (node id : ℕ) (m' : NameMachine) : Type
 
 -- a claim ends: its name is taken
 pub record LosesClaim (m : NameMachine) (node id : ℕ) (owner : Found) (m' : NameMachine) : Type 0 where
-  pub lookup : Lookup
+  pub lookup : OpenLookup
   pub stands : lookup_of m.lookups node id ≡ Some lookup
   pub claim : Claimed
   pub claims : lookup.claim ≡ Some claim
@@ -172,6 +172,6 @@ Says ss m (event.Deliver which node) (report.Names (nbp_report.Added count)) m' 
 Says ss m e r m' = ⊥
 
 -- at a report of another protocol, or of nobody, a moment passes
-abbrev pub StepBy : {A : Type 0} → Sessions → NameMachine → Event A → Report A → NameMachine → Kind → Type 0
+abbrev pub StepBy : {A : Type 0} → Sessions → NameMachine → Event A → Report A → NameMachine → Speaker → Type 0
 StepBy ss m e r m' Nbp = Says ss m e r m'
 StepBy ss m e r m' other = m' ≡ next m

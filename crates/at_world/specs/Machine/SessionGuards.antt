@@ -21,7 +21,7 @@ abbrev pub with_session : Sessions → ℕ → SessionState → Sessions
 with_session ss node s k = if node == k then s else ss k
 
 -- an event is a step of the session at its node, and the others stay
-pub record Step {A : Type 0} (ss : Sessions) (e : Event A) (r : Report A) (ss' : Sessions) : Type 0 where
+pub record SessionStep {A : Type 0} (ss : Sessions) (e : Event A) (r : Report A) (ss' : Sessions) : Type 0 where
   pub session : SessionState
   pub step : IsStep (ss (node_of e)) (act_of e) r session
   pub becomes : ss' ≡ with_session ss (node_of e) session

@@ -6,7 +6,7 @@ use Rattle.at_adsp_end.specs.declared.item.Item.{Item}
 use Rattle.at_adsp.specs.Connections.{begun}
 use Rattle.at_adsp.specs.Meetings.{OpensWith, ReadsWith}
 use Rattle.at_adsp.specs.Streams.{Stream, Deed, Wrote, Read as HasRead, GaveUp, has_number, with_deed}
-use Rattle.at_event.specs.Kinds.{Kind, Adsp}
+use Rattle.at_event.specs.Kinds.{Speaker, Adsp}
 use Rattle.at_event.specs.declared.Call.TheVariants.{Streams}
 use Rattle.at_event.specs.declared.streams.StreamCall.TheVariants.{Open, Connect, Write, Read, Reset}
 use Rattle.at_event.specs.declared.Report.{Report}
@@ -88,6 +88,7 @@ Says c ss m e (report.Streams r) m' = Tells c ss m r e m'
 Says c ss m e r m' = ⊥
 
 -- at a report of another protocol, or of nobody, nothing changes
-abbrev pub StepBy : {A : Type 0} → Cable → Sessions → StreamMachine → Event A → Report A → StreamMachine → Kind → Type 0
+abbrev pub StepBy : {A : Type 0} → Cable → Sessions → StreamMachine → Event A → Report A → StreamMachine → Speaker
+    → Type 0
 StepBy c ss m e r m' Adsp = Says c ss m e r m'
 StepBy c ss m e r m' other = m' ≡ next m

@@ -3,8 +3,8 @@ use Rattle.at_capture.proofs.DatagramLemmas.{readable_in}
 use Rattle.at_capture.specs.Datagrams.{Begin, ShortText, Stop, short_line}
 use Rattle.at_ddp.specs.Datagram.{content}
 use Rattle.at_frames.specs.ShortFaults.{number_of}
-use Rattle.at_show.specs.Data.{DataText}
-use Rattle.at_show.specs.Refusals.{refusal_line}
+use Rattle.at_print.specs.Refusals.{refusal_line}
+use Rattle.at_print.specs.Reports.{DataText}
 use Rattle.at_show.proofs.ShownLemmas.{tells_why, told_behind}
 use Rattle.at_capture.proofs.datagram_lines.show_short.Goals as goal
 

@@ -2,7 +2,7 @@ use Rattle.std.proofs.Common.{subst, sym, ◌++◌}
 use Rattle.at_capture.proofs.DatagramLemmas.{judged, told_as}
 use Rattle.at_capture.specs.Datagrams.{DatagramText, IsSoundBy}
 use Rattle.at_capture.specs.FrameLines.{answer_line, carried_line, other_line}
-use Rattle.at_capture.specs.Texts.{Carried, Empty, IsJudged, TellsKind}
+use Rattle.at_capture.specs.Texts.{Carried, Empty, IsJudged, TellsVerdict}
 use Rattle.at_frames.specs.Carried.{load_of}
 use Rattle.at_print.proofs.PrintLemmas.{Prints-trans}
 use Rattle.at_capture.proofs.frames.write_frame.Goals as goal
@@ -15,8 +15,8 @@ returns-in-Ok-clause-printed g c =
     let line = carried_line c.args.number c.args.frame.time carried.carrier carried.stations in
     let last = answer_line c.args.answered in (
       line ++ (shown.0 ++ last),
-      Carried (load_of carried) c.kind_of.result shown.0 c.in-Ok.ensures.found shown.1
-          (subst (λ k. IsJudged k (IsSoundBy carried.header carried.bytes.now)) (sym c.kind_of.ensures)
+      Carried (load_of carried) c.verdict_of.result shown.0 c.in-Ok.ensures.found shown.1
+          (subst (λ k. IsJudged k (IsSoundBy carried.header carried.bytes.now)) (sym c.verdict_of.ensures)
           (judged c.show_carried-status.result (IsSoundBy carried.header carried.bytes.now)
           c.show_carried-status.ensures.done)),
       Prints-trans page c.args.printer.now c.write_carried.new.printer c.write_answer.new.printer
@@ -27,8 +27,8 @@ returns-in-Ok-clause-printed g c =
 
 pub returns-in-Ok-clause-told : goal.returns-in-Ok-clause-told
 returns-in-Ok-clause-told g c =
-    subst (λ k. TellsKind g.E.Paper.page k c.args.diagnostics.now c.show_carried-status.new.diagnostics)
-    (sym c.kind_of.ensures) (told_as g.E.Paper.page
+    subst (λ k. TellsVerdict g.E.Paper.page k c.args.diagnostics.now c.show_carried-status.new.diagnostics)
+    (sym c.verdict_of.ensures) (told_as g.E.Paper.page
     (DatagramText c.in-Ok.carried.header c.in-Ok.carried.bytes.now) c.show_carried-status.result
     c.args.diagnostics.now c.show_carried-status.new.diagnostics c.show_carried-status.ensures.told)
 

@@ -1,4 +1,4 @@
-use Rattle.std.proofs.Common.{◌∙◌, ◌+◌, ◌≤◌, length, map, min, take, refl, sym, ap, subst, arith}
+use Rattle.std.proofs.Common.{◌∙◌, ◌≤◌, map, take, refl, sym, ap, subst, arith}
 use Rattle.std.specs.Prelude.{slice_get}
 use Rattle.std.proofs.lemmas.List.{take_all}
 use Rattle.at_cable.specs.Calls.{last_count}
@@ -51,7 +51,8 @@ loop-at-preserved g c =
     record {
       runs = next_driven g.C.Cable.sends g.C.Cable.receives c.args.steps.now c.loop-at.at c.index-steps-at.result
           (opening_drive c.args.setup.now) c.args.cable.now (noting c.loop-at.drive c.loop-at.log) c.loop-at.cable
-          (noting c.step.new.self c.step.new.log) c.step.new.cable c.loop-at-test.true c.index-steps-at.is c.loop-at.invariant.runs driven;
+          (noting c.step.new.self c.step.new.log) c.step.new.cable c.loop-at-test.true c.index-steps-at.is
+          c.loop-at.invariant.runs driven;
       numbers = c.step.ensures.numbers ∙ c.loop-at.invariant.numbers;
     }
 
@@ -59,7 +60,8 @@ pub returns-clause-driven : goal.returns-clause-driven
 returns-clause-driven g c =
     let all = subst
     (λ l. Runs g.C.Cable.sends g.C.Cable.receives 0 l (opening_drive c.args.setup.now) c.args.cable.now
-    (noting c.loop-at.drive c.loop-at.log) c.loop-at.cable) (take_all c.loop-at.at c.args.steps.now c.loop-at-test.false) c.loop-at.invariant.runs in
+    (noting c.loop-at.drive c.loop-at.log) c.loop-at.cable) (take_all c.loop-at.at c.args.steps.now
+    c.loop-at-test.false) c.loop-at.invariant.runs in
     (noting c.loop-at.drive c.loop-at.log, all, refl)
 
 pub returns-clause-counted : goal.returns-clause-counted

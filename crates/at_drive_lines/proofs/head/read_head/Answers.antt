@@ -47,7 +47,8 @@ returns-in-Ok-clause-said g c =
     let (read, come, has, numbered) = c.loop-draft.invariant in
     let none = c.in_ok-advance.was ∙ ap Ok c.if-branch.false in
     let head = c.in-Ok.head in
-    said_of g.row.A.Denot (g.L.Lines.left c.args.lines.now) (g.L.Lines.left c.loop-draft.lines) head.setup head.port read
+    said_of g.row.A.Denot (g.L.Lines.left c.args.lines.now) (g.L.Lines.left c.loop-draft.lines) head.setup head.port
+    read
     come (c.advance.ensures.end none) (c.in-Ok.ensures.said (words_in read) has)
 
 pub returns-in-Ok-clause-lawful : goal.returns-in-Ok-clause-lawful

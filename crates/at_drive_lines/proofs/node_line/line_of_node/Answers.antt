@@ -34,7 +34,8 @@ returns-then-names-clause-found g c =
     let more = c.in_ok-advance.was ∙ ap Ok c.if-branch.true in
     let now = g.L.Lines.left c.loop-lines.lines in
     let after = g.L.Lines.left c.advance.new.self in
-    first_line_of (g.L.Lines.left c.args.lines.now) read now c.line.result.now after c.args.node c.loop-lines.number come
+    first_line_of (g.L.Lines.left c.args.lines.now) read now c.line.result.now after c.args.node c.loop-lines.number
+    come
     (subst (λ l. HasNext now l after) (sym c.line.ensures) (c.advance.ensures.next more)) numbered others
     (c.if-names.ensures.0 refl)
 

@@ -3,7 +3,7 @@ use Rattle.std.proofs.lemmas.Result.{err_from_is_err_and}
 use Rattle.at_drive.specs.Steps.{numbers_of}
 use Rattle.at_drive_lines.specs.Lines.{HasNext}
 use Rattle.at_drive_lines.specs.StepLines.{is_step_line}
-use Rattle.at_drive_text.specs.Driven.{Goes, IsUnread, first_place}
+use Rattle.at_drive_text.specs.Driven.{Goes, IsUnread, first_progress}
 use Rattle.at_drive_text.proofs.CourseLemmas.{at_grows, bounded, nothing_driven, sofar_done, sofar_ended, sofar_line}
 use Rattle.at_drive_text.proofs.CourseLemmas.{sofar_unread}
 use Rattle.at_drive_text.proofs.drive.drive_each.Goals as goal
@@ -24,8 +24,9 @@ returns-in_err-next_line-clause-goes g c =
     let failed = c.in_err-next_line.ensures.failed in
     let setup = c.args.course.now.setup.now in
     let first = g.L.Lines.left c.args.lines.now in
-    let start = first_place c.args.drive.now c.args.cable.now c.args.diagnostics.now in
-    let went = Goes g.C.Cable.sends g.C.Cable.receives g.W.Paper.page g.E.Paper.page setup first g.L.Lines.may_fail start
+    let start = first_progress c.args.drive.now c.args.cable.now c.args.diagnostics.now in
+    let went = Goes g.C.Cable.sends g.C.Cable.receives g.W.Paper.page g.E.Paper.page setup first g.L.Lines.may_fail
+    start
     c.args.printer.now c.loop-course.cable c.loop-course.printer c.loop-course.diagnostics in
     subst went (sym (p.1 ∙ ap Err p.2))
     (sofar_unread g.C.Cable.sends g.C.Cable.receives g.W.Paper.page g.E.Paper.page setup first start c.args.printer.now
@@ -65,7 +66,7 @@ loop-course-preserved g c =
     record {
       so = sofar_line g.C.Cable.sends g.C.Cable.receives g.W.Paper.page g.E.Paper.page c.args.course.now.setup.now
           (g.L.Lines.left c.args.lines.now)
-          (first_place c.args.drive.now c.args.cable.now c.args.diagnostics.now) c.args.printer.now now after line
+          (first_progress c.args.drive.now c.args.cable.now c.args.diagnostics.now) c.args.printer.now now after line
           c.loop-course.course c.loop-course.drive c.loop-course.cable c.loop-course.printer c.loop-course.diagnostics
           c.drive_line.new.self c.drive_line.new.drive c.drive_line.new.cable c.drive_line.new.printer
           c.drive_line.new.diagnostics c.loop-course.invariant.so
@@ -91,8 +92,9 @@ returns-in_err-drive_line-clause-goes g c =
     let first = g.L.Lines.left c.args.lines.now in
     let now = g.L.Lines.left c.loop-course.lines in
     let after = g.L.Lines.left c.next_line.new.lines in
-    let start = first_place c.args.drive.now c.args.cable.now c.args.diagnostics.now in
-    let went = Goes g.C.Cable.sends g.C.Cable.receives g.W.Paper.page g.E.Paper.page setup first g.L.Lines.may_fail start
+    let start = first_progress c.args.drive.now c.args.cable.now c.args.diagnostics.now in
+    let went = Goes g.C.Cable.sends g.C.Cable.receives g.W.Paper.page g.E.Paper.page setup first g.L.Lines.may_fail
+    start
     c.args.printer.now c.drive_line.new.cable c.drive_line.new.printer c.drive_line.new.diagnostics in
     subst went (sym (p.1 ∙ ap Err p.2))
     (sofar_ended g.C.Cable.sends g.C.Cable.receives g.W.Paper.page g.E.Paper.page setup first start c.args.printer.now
@@ -107,7 +109,7 @@ pub returns-clause-goes : goal.returns-clause-goes
 returns-clause-goes g c =
     let none = c.in_ok-next_line.was ∙ ap Ok c.if-branch.false in
     sofar_done g.C.Cable.sends g.C.Cable.receives g.W.Paper.page g.E.Paper.page c.args.course.now.setup.now
-    (g.L.Lines.left c.args.lines.now) (first_place c.args.drive.now c.args.cable.now c.args.diagnostics.now)
+    (g.L.Lines.left c.args.lines.now) (first_progress c.args.drive.now c.args.cable.now c.args.diagnostics.now)
     c.args.printer.now (g.L.Lines.left c.loop-course.lines) c.loop-course.course c.loop-course.drive
     c.loop-course.cable c.loop-course.printer c.loop-course.diagnostics c.loop-course.invariant.so
     g.L.Lines.may_fail (c.next_line.ensures.end none)

@@ -16,7 +16,8 @@ returns-in-Ok-eq0-clause-whole g c =
 pub returns-in-Ok-clause-long : goal.returns-in-Ok-clause-long
 returns-in-Ok-clause-long g c said =
     let read = c.in-Ok.ensures in
-    over_read _ _ _ c.loop.bytes.items c.read.new.buf c.in-Ok.len c.args.most c.loop.invariant.taken read.bytes.0 read.bound.0
+    over_read _ _ _ c.loop.bytes.items c.read.new.buf c.in-Ok.len c.args.most c.loop.invariant.taken read.bytes.0
+    read.bound.0
     (omega (arith, c.if-len-most.true, c.loop.invariant.fits, c.len.ensures))
 
 pub loop-preserved : goal.loop-preserved

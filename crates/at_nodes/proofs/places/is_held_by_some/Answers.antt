@@ -13,7 +13,8 @@ returns-then-holds g c =
 pub loop-place-preserved : goal.loop-place-preserved
 loop-place-preserved g c =
     c.loop-place.invariant
-    ∙ holds_further (λ n. holds n c.args.node c.args.draw) c.args.nodes.now c.loop-place.place c.index-nodes-place.result
+    ∙ holds_further (λ n. holds n c.args.node c.args.draw) c.args.nodes.now c.loop-place.place
+    c.index-nodes-place.result
     (omega (arith, c.loop-place-test.true))
     (ap (λ n. holds n c.args.node c.args.draw) (sym c.index-nodes-place.is) ∙ sym c.holds.ensures ∙ c.if-holds.false)
 

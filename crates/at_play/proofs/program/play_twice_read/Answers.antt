@@ -26,7 +26,8 @@ returns-in_err-send_back-clause-told g c =
 
 pub returns-in_err-send_back-2-clause-told : goal.returns-in_err-send_back-2-clause-told
 returns-in_err-send_back-2-clause-told g c =
-    let p = err_from_is_err_and c.from_residual-in_err-send_back-2.result c.from_residual-in_err-send_back-2.ensures.1 in (
+    let p = err_from_is_err_and c.from_residual-in_err-send_back-2.result c.from_residual-in_err-send_back-2.ensures.1
+    in (
       [],
       inl (not_read _ c.args.diagnostics.now
           c.from_residual-in_err-send_back-2.result p.2.0 p.0 p.1 p.2.2 (bytes_of_read p.2.0 p.2.1)),

@@ -15,7 +15,8 @@ returns-in-Response g c =
     rw c.in-Response.is
     (response_prints g.W.Paper.page c.args.printer.now c.write_each-in-Response.new.self
     c.write_parts-in-Response.new.printer
-    c.in-Response.place c.in-Response.eom c.in-Response.sts c.from-in-Response.result c.from-in-Response-2.result
+    c.in-Response.sequence_number c.in-Response.eom c.in-Response.sts c.from-in-Response.result
+    c.from-in-Response-2.result
     c.in-Response.tid
     c.in-Response.user c.in-Response.data_.now c.from-in-Response.ensures c.from-in-Response-2.ensures
     c.write_each-in-Response.ensures c.write_parts-in-Response.ensures)

@@ -26,7 +26,7 @@ returns-in-Err-clause-stopped g c =
       record {
         fault = c.in-Err.fault;
         line = c.args.line;
-        which = c.delivered.result;
+        datagram = c.delivered.result;
         says = ap (λ at. stop.Event c.in-Err.fault at c.args.line c.delivered.result) c.played-at.ensures;
         faulty = fault;
       },

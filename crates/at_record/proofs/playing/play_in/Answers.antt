@@ -5,7 +5,7 @@ use Rattle.at_world.specs.Plays.{opening_world}
 use Rattle.at_play.proofs.LineLemmas.{HasRead, none_read, reads_all, reads_so_far}
 use Rattle.at_play.proofs.TextLines.{none_left, stops_text}
 use Rattle.at_play.proofs.ToldLemmas.{fresh_at, line_played}
-use Rattle.at_play.specs.Told.{StopsLine, TellsLine}
+use Rattle.at_play.specs.Told.{TellsLine}
 use Rattle.at_record.specs.Ends.{PlaysEvents}
 use Rattle.at_record.specs.Unseen.{unseen, unseen_page}
 use Rattle.at_record.proofs.PlayedLemmas.{Unseen, opened, played_all, played_some}

@@ -1,6 +1,6 @@
-use Rattle.std.proofs.Common.{◌≡◌, ◌∷◌, ◌++◌, [], ℕ, List, Some, ap, append_assoc, refl, subst, sym, ◌∙◌}
+use Rattle.std.proofs.Common.{◌∷◌, ◌++◌, [], Some, ap, append_assoc, subst, sym, ◌∙◌}
 use Rattle.std.specs.List.{All}
-use Rattle.at_schedule.specs.Drafts.{BeginSchedule, IsLineFault, IsSchedule}
+use Rattle.at_schedule.specs.Drafts.{IsLineFault, IsSchedule}
 use Rattle.at_schedule.specs.Says.{IsEventHere}
 use Rattle.at_schedule.specs.Schedules.{lines_in, setup_words}
 use Rattle.at_schedule.specs.Wholes.{events_of}

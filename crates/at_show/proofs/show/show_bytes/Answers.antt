@@ -24,7 +24,8 @@ returns-clause-printed g c =
 
 pub returns-clause-told : goal.returns-clause-told
 returns-clause-told g c =
-    told_in g.E.Paper.page (BytesText c.args.bytes.now) c.show_first-status.result c.args.diagnostics.now c.show_first-status.new.diagnostics
+    told_in g.E.Paper.page (BytesText c.args.bytes.now) c.show_first-status.result c.args.diagnostics.now
+    c.show_first-status.new.diagnostics
     (IsSound c.args.bytes.now) c.show_first-status.ensures.done.0 c.show_first-status.ensures.told
 
 pub returns-clause-silent : goal.returns-clause-silent

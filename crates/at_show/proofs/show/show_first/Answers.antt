@@ -1,9 +1,9 @@
 use Rattle.at_ddp.specs.Datagram.{content}
 use Rattle.at_ddp.specs.Fault.{number_of}
 use Rattle.at_print.specs.Lines.{header_line}
+use Rattle.at_print.specs.Refusals.{refusal_line}
+use Rattle.at_print.specs.Reports.{DataText}
 use Rattle.at_show.specs.Texts.{BytesText, Begin, Stop}
-use Rattle.at_show.specs.Data.{DataText}
-use Rattle.at_show.specs.Refusals.{refusal_line}
 use Rattle.std.proofs.Common.{subst, sym, ◌++◌, length}
 use Rattle.at_show.proofs.ShownLemmas.{readable_in, tells_why, told_behind}
 use Rattle.at_show.proofs.show.show_first.Goals as goal

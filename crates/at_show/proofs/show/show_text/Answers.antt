@@ -63,7 +63,8 @@ returns-clause-told g c = elim c.match-bytes_of.branch [
       (λ text is. Spelled bytes text w.in-Ok.ensures.found is) told))
   | in-Err w ↦
       let fault = w.in-Err.fault in
-      rw w.diagnostics-is (inr (fault_told g.E.Paper.page (WordText c.args.word.now (vec_capacity c.args.room.now)) fault
+      rw w.diagnostics-is (inr (fault_told g.E.Paper.page (WordText c.args.word.now
+      (vec_capacity c.args.room.now)) fault
       c.args.diagnostics.now w.show_fault-status.new.diagnostics
       (fault_text c.args.word.now (vec_capacity c.args.room.now) fault
       (λ e. c.bytes_of.ensures.fault (w.in-Err.is ∙ ap Err e))

@@ -1,6 +1,6 @@
 use Rattle.std.proofs.Common.{inl, inr, rules, subst, append-nil, []}
-use Rattle.at_diagnostics.specs.Stops.{no_memory_line}
 use Rattle.at_print.specs.Printers.{Prints}
+use Rattle.at_print.specs.Refusals.{no_memory_line}
 use Rattle.at_print.proofs.PrintLemmas.{Prints-trans}
 use Rattle.at_show.proofs.WordLemmas.{shown}
 use Rattle.at_show.proofs.word.show_word.Goals as goal

@@ -17,8 +17,8 @@ use Rattle.at_zip.specs.Reading.{place_after}
 use Rattle.at_zip.specs.Request.{code_of, request_user}
 use Rattle.at_zip.specs.Tables.{Tables, with_table}
 use Rattle.at_zip.specs.Zones.{table_fault}
-use Rattle.at_zip.specs.declared.request.Which.{Which}
-use Rattle.at_zip.specs.declared.request.Which.TheVariants.{All, Local}
+use Rattle.at_zip.specs.declared.request.TableChoice.{TableChoice}
+use Rattle.at_zip.specs.declared.request.TableChoice.TheVariants.{All, Local}
 use Rattle.at_zip.specs.declared.fault.ZipFault.{ZipFault}
 use Rattle.at_event.specs.Kinds.{IsCall}
 use Rattle.at_node.specs.Numbers.{drawn_by}
@@ -74,7 +74,7 @@ begun_is_open q t mine r numbered is =
     (open_last q.standing t)
 
 -- the request for a page is in range
-pub asks_fit : (which : Which) (names : List (List ℕ))
+pub asks_fit : (which : TableChoice) (names : List (List ℕ))
     → IsPacket (record { user = request_user which (place_after names); data_ = [] })
 asks_fit which names = record {
   four = refl;
@@ -84,7 +84,7 @@ asks_fit which names = record {
   fits = lit≤ tt;
 }
   where
-    code : (v : Which) → code_of v < 256
+    code : (v : TableChoice) → code_of v < 256
     code All = lit< tt
     code Local = lit< tt
 
@@ -109,7 +109,7 @@ module _ (A : Type 0) (laws : CallLaws A) (history : List Happening) (n : NodeSt
 
   -- ---- a zone table
 
-  reading_is_open : (kind : Which) (router tid : ℕ)
+  reading_is_open : (kind : TableChoice) (router tid : ℕ)
       → IsOpen (with_reading n.atp (Some (record { which = kind; tid = tid; names = [] }))
       (record n.atp.transactions {
         requester = requests.begun n.atp.transactions.requester
@@ -119,7 +119,7 @@ module _ (A : Type 0) (laws : CallLaws A) (history : List Happening) (n : NodeSt
       begun_is_open n.atp.transactions.requester (page_transaction (zones_at n.seat.net router) kind [] tid)
       (record { which = kind; tid = tid; names = [] }) r refl is
 
-  reading_begun : (kind : Which) (router : ℕ) → n.seat.router ≡ Some router → (drawn : Option ℕ)
+  reading_begun : (kind : TableChoice) (router : ℕ) → n.seat.router ≡ Some router → (drawn : Option ℕ)
       → next_number n.atp.transactions.requester ≡ drawn
       → DrawsFree A history n (over (with_atp n) (reading_begins {A = A} n.seat n.atp kind router drawn)).report
       → IsIts A history n (Calls (Zones (zone.Read kind)))
@@ -150,7 +150,7 @@ module _ (A : Type 0) (laws : CallLaws A) (history : List Happening) (n : NodeSt
         reading = refl;
       }))
 
-  pub zones_call : (kind : Which) (router : Option ℕ) (reading : Option Reading) → n.seat.router ≡ router
+  pub zones_call : (kind : TableChoice) (router : Option ℕ) (reading : Option Reading) → n.seat.router ≡ router
       → DrawsFree A history n (over (with_atp n) (zones_called {A = A} n.seat n.atp kind router reading)).report
       → IsIts A history n (Calls (Zones (zone.Read kind)))
       (over (with_atp n) (zones_called n.seat n.atp kind router reading))
@@ -163,7 +163,7 @@ module _ (A : Type 0) (laws : CallLaws A) (history : List Happening) (n : NodeSt
 
   -- ---- the router's tables
 
-  table_call : (kind : Which) (names : List (List ℕ)) (tables : Tables) → n.atp.zones.tables ≡ Some tables
+  table_call : (kind : TableChoice) (names : List (List ℕ)) (tables : Tables) → n.atp.zones.tables ≡ Some tables
       → (fault : Option ZipFault) → table_fault names ≡ fault
       → IsIts A history n (Calls (Zones (zone.Set kind names)))
       (over (with_atp n) (over (with_zones n.atp) (table_set n.atp.zones tables kind names fault)))
@@ -190,7 +190,8 @@ module _ (A : Type 0) (laws : CallLaws A) (history : List Happening) (n : NodeSt
       refused (Some k) =
           idle_happens A history n (Calls (Zones (zone.Set kind names))) st (report.Refused k) refl refl refl
 
-  pub set_zones_call : (kind : Which) (names : List (List ℕ)) (tables : Option Tables) → n.atp.zones.tables ≡ tables
+  pub set_zones_call : (kind : TableChoice) (names : List (List ℕ)) (tables : Option Tables)
+      → n.atp.zones.tables ≡ tables
       → IsIts A history n (Calls (Zones (zone.Set kind names)))
       (over (with_atp n) (over (with_zones n.atp) (set_zones_called n.atp.zones tables kind names)))
   set_zones_call kind names None has = idle_happens A history n (Calls (Zones (zone.Set kind names))) st
@@ -256,7 +257,7 @@ module _ (A : Type 0) (laws : CallLaws A) (history : List Happening) (n : NodeSt
             responder = at_socket n.seat node socket;
             user = user;
             data_ = bytes;
-            wanted = length-replicate {A = Option arrivals.Arrival} wanted None i;
+            wanted = length-replicate {A = Option arrivals.AnswerPart} wanted None i;
             xo = xo;
             answers = [];
           } ∷

@@ -8,8 +8,8 @@ use Rattle.at_atp_frame.specs.Frames.{Content, IsLawful, spelled, number_of}
 use Rattle.at_atp_frame.specs.Packets.{Packet}
 use Rattle.at_atp_requester.specs.Requests.{Requests, Retried, finishes, has_number, next_number, is_finished, heard}
 use Rattle.at_atp_requester.specs.Requests.{retried}
-use Rattle.at_atp_requester.specs.declared.step.Retry.TheVariants.{Failed}
-use Rattle.at_atp_responder.specs.Records.{Record, is_key, taken, record_fault, asked_for}
+use Rattle.at_atp_requester.specs.declared.progress.Retry.TheVariants.{Failed}
+use Rattle.at_atp_responder.specs.Records.{Record, is_key, received, record_fault, asked_for}
 use Rattle.at_atp_responder.specs.declared.reception.Key.{Key}
 use Rattle.at_atp_responder.specs.declared.reception.Reception.TheVariants.{New}
 use Rattle.at_atp.specs.Lawfully.{IsInRange, IsLawfullySent}
@@ -19,7 +19,7 @@ use Rattle.at_atp.specs.Network.{Happening, AllTimely, GivesAnswers, after}
 use Rattle.at_zip.specs.Page.{page_of, page_user, page_data}
 use Rattle.at_zip.specs.Tables.{Tables, AreTables, with_table}
 use Rattle.at_zip.specs.Zones.{IsTable, table_fault}
-use Rattle.at_zip.specs.declared.request.Which.{Which}
+use Rattle.at_zip.specs.declared.request.TableChoice.{TableChoice}
 use Rattle.at_node.specs.Hearing.{Hears, HearsSent}
 use Rattle.at_node.specs.Nodes.{NodeState}
 use Rattle.at_event.specs.Outcomes.{Outcome}
@@ -31,7 +31,7 @@ pub record CallLaws (A : Type 0) : Type 0 where
   pub drawn : (r : Requests) (tid : ℕ) → next_number r ≡ Some tid → has_number r.standing tid ≡ false
   pub few : (o : Option Record) (key : Key) (packets : List Packet) → length (asked_for o key packets) ≤ length packets
   pub tables : (names : List (List ℕ)) → table_fault names ≡ None → IsTable names
-  pub sets : (which : Which) (names : List (List ℕ)) (tables : Tables) → IsTable names → AreTables tables
+  pub sets : (which : TableChoice) (names : List (List ℕ)) (tables : Tables) → IsTable names → AreTables tables
       → AreTables (with_table which names tables)
 
 -- a number stays open until its transaction fails
@@ -50,8 +50,9 @@ pub record HearingLaws (A : Type 0) : Type 0 where
   pub heard_stays : (r : Requests) (from : Address) (f : Content) (tid : ℕ) → has_number r.standing tid ≡ true
       → (is_finished (heard {A = A} r from f).step ≡ true → (number_of f == tid) ≡ false)
       → has_number (heard {A = A} r from f).after.standing tid ≡ true
-  pub new_waits : (rs : List Record) (from : Address) (f : Content) (key : Key) → (taken rs from f).reception ≡ New key
-      → (record_fault (find (is_key key) (taken rs from f).after) ≡ None) × ((taken rs from f).sent ≡ [])
+  pub new_waits : (rs : List Record) (from : Address) (f : Content) (key : Key)
+      → (received rs from f).reception ≡ New key
+      → (record_fault (find (is_key key) (received rs from f).after) ≡ None) × ((received rs from f).sent ≡ [])
       × (key ≡ record { from = from; tid = number_of f })
   pub few : (o : Option Record) (key : Key) (packets : List Packet) → length (asked_for o key packets) ≤ length packets
   pub quiet_end : (r : Requests) (from : Address) (f : Content) → finishes A r from f ≡ true

@@ -19,7 +19,7 @@ use Rattle.at_atp.specs.Network.{Network, Happening, after, done}
 use Rattle.at_atp.specs.Transactions.{Asked}
 use Rattle.at_event.specs.Kinds.{IsCall}
 use Rattle.at_transaction_socket.specs.TransactionSockets.{serving}
-use Rattle.at_event.specs.Kinds.{kind_of_call}
+use Rattle.at_event.specs.Kinds.{speaker_of_call}
 use Rattle.at_node.specs.Nodes.{with_atp, NodeState, called}
 use Rattle.at_event.specs.Outcomes.{over, idle, refused_as}
 use Rattle.at_transaction_socket.specs.ServiceSocket.{answered_with}
@@ -135,7 +135,7 @@ module _ (A : Type 0) (laws : CallLaws A) (history : List Happening) (n : NodeSt
           reading = refl;
         }))
 
-  pub call_happens : (call : Call A) → IsCall call → is_atp (kind_of_call call) ≡ true
+  pub call_happens : (call : Call A) → IsCall call → is_atp (speaker_of_call call) ≡ true
       → DrawsFree A history n (called n call).report → IsIts A history n (Calls call) (called n call)
   call_happens (Zones (zone.Read kind)) range own free =
       zones_call A laws history n st kind n.seat.router n.atp.zones.reading refl free

@@ -10,8 +10,8 @@ use Rattle.at_atp_frame.specs.Packets.{Packet}
 use Rattle.at_atp_requester.specs.Requests as requests
 use Rattle.at_atp_requester.specs.Requests.{Requests, finishes, has_number, heard, is_at_least_once, is_finished}
 use Rattle.at_atp_requester.specs.Requests.{is_numbered, is_of}
-use Rattle.at_atp_requester.specs.declared.step.Step.{Step as Stepped}
-use Rattle.at_atp_requester.specs.declared.step.Step.TheVariants as step
+use Rattle.at_atp_requester.specs.declared.progress.RequestProgress.{RequestProgress as Stepped}
+use Rattle.at_atp_requester.specs.declared.progress.RequestProgress.TheVariants as step
 use Rattle.at_atp.specs.Network as network
 use Rattle.at_ddp.specs.Posts.{packet_at}
 use Rattle.at_atp.specs.Network.{Sent, Happening, Hears, NoneHolds, after, done, with_requester, is_fresh}
@@ -78,14 +78,14 @@ module _ (A : Type 0) (laws : HearingLaws A) (history : List Happening) (n : Nod
   came_in = Response place eom sts tid user bytes
 
   -- what the requester makes of it
-  abbrev taken : requests.Heard A
-  taken = heard {A = A} n.atp.transactions.requester s.from came_in
+  abbrev received : requests.Heard A
+  received = heard {A = A} n.atp.transactions.requester s.from came_in
 
   its_requester : (after A history).requesters s.to ≡ n.atp.transactions.requester
   its_requester = ap (after A history).requesters to_is ∙ st.requester
 
   is_done : done A (after A history) (Hears which)
-      ≡ with_requester (after A history) (asking n.seat.net n.seat.number) taken.after taken.sent
+      ≡ with_requester (after A history) (asking n.seat.net n.seat.number) received.after received.sent
   is_done = ap (network.hears A (after A history)) was_sent
       ∙ (λ i. with_requester (after A history) (to_is i) (heard {A = A} (its_requester i) s.from (packet_is i)).after
       (heard {A = A} (its_requester i) s.from (packet_is i)).sent)
@@ -106,7 +106,7 @@ module _ (A : Type 0) (laws : HearingLaws A) (history : List Happening) (n : Nod
       )
 
   -- if the transaction reads, and the packet ends it, it is the page that the reading asked for
-  ends_it : is_reading n.atp.zones.reading tid ≡ true → is_finished taken.step ≡ true
+  ends_it : is_reading n.atp.zones.reading tid ≡ true → is_finished received.step ≡ true
       → is_page A n.atp s.from came_in ≡ true
   ends_it mine ended =
       let it = reads_it n.atp.zones.reading tid mine in
@@ -134,7 +134,7 @@ module _ (A : Type 0) (laws : HearingLaws A) (history : List Happening) (n : Nod
       some_transaction h = cc
 
   -- a packet that is no page leaves a reading open
-  away : is_page A n.atp s.from came_in ≡ false → is_finished taken.step ≡ true → is_reading n.atp.zones.reading tid
+  away : is_page A n.atp s.from came_in ≡ false → is_finished received.step ≡ true → is_reading n.atp.zones.reading tid
       ≡ false
   away other ended = go (is_reading n.atp.zones.reading tid) refl
     where
@@ -142,29 +142,29 @@ module _ (A : Type 0) (laws : HearingLaws A) (history : List Happening) (n : Nod
       go false e = refl
       go true e = absurd (false≢true (sym other ∙ ends_it e ended))
 
-  goes_on : (is_finished taken.step ≡ true → is_reading n.atp.zones.reading tid ≡ false)
-      → IsOpen (with_transactions n.atp (record n.atp.transactions { requester = taken.after }))
+  goes_on : (is_finished received.step ≡ true → is_reading n.atp.zones.reading tid ≡ false)
+      → IsOpen (with_transactions n.atp (record n.atp.transactions { requester = received.after }))
   goes_on apart r reads = laws.heard_stays n.atp.transactions.requester s.from came_in r.tid
       (st.is_open r reads) (λ finished. reads_another n.atp.zones.reading tid r (apart finished) reads)
 
   -- a step of a transaction that goes on, or of another than the reading's
   steps_so : (r : Report A) (o : Outcome A AtpState) → drawn_by r ≡ None
       → Matches n.seat.net n.seat.number n.atp.zones.tables (after A history) (Hears which) (Gets which) r
-      → (is_finished taken.step ≡ true → is_reading n.atp.zones.reading tid ≡ false)
+      → (is_finished received.step ≡ true → is_reading n.atp.zones.reading tid ≡ false)
       → StepTo A history n (Gets which) (after A history).asked
-      (with_transactions n.atp (record n.atp.transactions { requester = taken.after })) r
-      → o ≡ over (with_transactions n.atp) (after_heard n.seat n.atp.transactions taken r) → IsIts A history n
+      (with_transactions n.atp (record n.atp.transactions { requester = received.after })) r
+      → o ≡ over (with_transactions n.atp) (after_heard n.seat n.atp.transactions received r) → IsIts A history n
       (Gets which) (over (with_atp n) o)
   steps_so r o none matches apart step is = subst (λ p. IsIts A history n (Gets which) (over (with_atp n) p)) (sym is)
-      (requester_happens A history n (Gets which) st (Hears which) taken.after n.atp.zones.reading taken.sent r
+      (requester_happens A history n (Gets which) st (Hears which) received.after n.atp.zones.reading received.sent r
       (in_time (after A history) which s was_sent fresh) tt is_done none (goes_on apart) matches step)
 
   -- a step with a report that says nothing of transactions
   plainly : (r : Report A) (o : Outcome A AtpState) → drawn_by r ≡ None → is_quiet r (Gets which) ≡ true
-      → (x : Stepped A) → taken.step ≡ x → is_finished x ≡ false
+      → (x : Stepped A) → received.step ≡ x → is_finished x ≡ false
       → StepTo A history n (Gets which) (after A history).asked
-      (with_transactions n.atp (record n.atp.transactions { requester = taken.after })) r
-      → o ≡ over (with_transactions n.atp) (after_heard n.seat n.atp.transactions taken r) → IsIts A history n
+      (with_transactions n.atp (record n.atp.transactions { requester = received.after })) r
+      → o ≡ over (with_transactions n.atp) (after_heard n.seat n.atp.transactions received r) → IsIts A history n
       (Gets which) (over (with_atp n) o)
   plainly r o none quiet x is goes step at =
       steps_so r o none (hears_matches A n.seat.net n.seat.number n.atp.zones.tables (after A history) which
@@ -172,7 +172,7 @@ module _ (A : Type 0) (laws : HearingLaws A) (history : List Happening) (n : Nod
 
   -- ---- the end of another transaction
 
-  response : (packets : List Packet) → taken.step ≡ step.Finished packets
+  response : (packets : List Packet) → received.step ≡ step.Finished packets
       → (a : Transaction) × (transaction_of (after A history).asked (asking n.seat.net n.seat.number) tid ≡ Some a)
       × IsResponse a packets
   response packets ended =
@@ -187,8 +187,8 @@ module _ (A : Type 0) (laws : HearingLaws A) (history : List Happening) (n : Nod
       )
 
   -- a packet that no reading asked for
-  other_happens : is_page A n.atp s.from came_in ≡ false → (x : Stepped A) (o : Outcome A AtpState) → taken.step ≡ x
-      → o ≡ over (with_transactions n.atp) (after_heard n.seat n.atp.transactions taken (reported_other tid x))
+  other_happens : is_page A n.atp s.from came_in ≡ false → (x : Stepped A) (o : Outcome A AtpState) → received.step ≡ x
+      → o ≡ over (with_transactions n.atp) (after_heard n.seat n.atp.transactions received (reported_other tid x))
       → IsIts A history n (Gets which) (over (with_atp n) o)
   other_happens other step.Ignored o is at = plainly report.Ignored o refl refl step.Ignored is refl
       (Plain (record { plain = refl; asked = refl; reading = refl })) at
@@ -211,7 +211,7 @@ module _ (A : Type 0) (laws : HearingLaws A) (history : List Happening) (n : Nod
       }))
       (away other)
       (Ends (record {
-        which = which;
+        datagram = which;
         tid = tid;
         packets = packets;
         act = refl;
@@ -230,10 +230,10 @@ module _ (A : Type 0) (laws : HearingLaws A) (history : List Happening) (n : Nod
   response_happens on_net o free at = go (is_page A n.atp s.from came_in) refl at
     where
       go : (b : Bool) → is_page A n.atp s.from came_in ≡ b →
-          MatchBool b (ReadsPage n.seat n.atp taken s.from
+          MatchBool b (ReadsPage n.seat n.atp received s.from
           (names_read n.atp.zones.reading) (record { user = user; data_ = bytes }) o)
-          (o ≡ over (with_transactions n.atp) (after_heard n.seat n.atp.transactions taken
-          (reported_other tid taken.step)))
+          (o ≡ over (with_transactions n.atp) (after_heard n.seat n.atp.transactions received
+          (reported_other tid received.step)))
           → IsIts A history n (Gets which) (over (with_atp n) o)
       go true e g =
           let it = reads_it n.atp.zones.reading tid
@@ -241,6 +241,6 @@ module _ (A : Type 0) (laws : HearingLaws A) (history : List Happening) (n : Nod
           in
           page_happens A laws history n st which s was_sent fresh to_is place eom sts tid user bytes packet_is part
           is_done it.0 it.1 it.2 e on_net o free
-          (subst (λ l. ReadsPage n.seat n.atp taken s.from l (record { user = user; data_ = bytes }) o)
+          (subst (λ l. ReadsPage n.seat n.atp received s.from l (record { user = user; data_ = bytes }) o)
           (ap names_read it.1) g)
-      go false e g = other_happens e taken.step o refl g
+      go false e g = other_happens e received.step o refl g

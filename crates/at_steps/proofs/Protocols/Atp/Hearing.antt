@@ -11,9 +11,9 @@ use Rattle.at_atp_frame.specs.Frames.{Content, Request, Response, Release, spell
 use Rattle.at_atp_frame.specs.Packets.{Packet}
 use Rattle.at_atp_frame.specs.declared.fault.AtpFault.TheVariants.{Full}
 use Rattle.at_atp_requester.specs.Requests.{Heard, heard}
-use Rattle.at_atp_requester.specs.declared.step.Step.{Step}
-use Rattle.at_atp_requester.specs.declared.step.Step.TheVariants as step
-use Rattle.at_atp_responder.specs.Records.{Taken, asked_for, finds_no_place, is_key, taken}
+use Rattle.at_atp_requester.specs.declared.progress.RequestProgress.{RequestProgress}
+use Rattle.at_atp_requester.specs.declared.progress.RequestProgress.TheVariants as step
+use Rattle.at_atp_responder.specs.Records.{Received, asked_for, finds_no_place, is_key, received}
 use Rattle.at_atp_responder.specs.declared.reception.Reception.{Reception}
 use Rattle.at_atp_responder.specs.declared.reception.Reception.TheVariants as reception
 use Rattle.at_zip.specs.Page.{Page}
@@ -55,7 +55,7 @@ module _ (A : Type 0) (s : Seat) (a : AtpState) (which : ℕ) where
       by o (over (with_reading a now) (after_heard s a.transactions h r)) is
       (all_sent atp_kind (asker s.net s.number) (spelled_all h.sent), apart)
 
-  other_told : (tid : ℕ) (x : Step A) → MaySay A Atp (Gets which) (reported_other tid x)
+  other_told : (tid : ℕ) (x : RequestProgress A) → MaySay A Atp (Gets which) (reported_other tid x)
   other_told tid step.Ignored = (tt, tt)
   other_told tid step.Kept = (refl, tt)
   other_told tid step.AskAgain = (tt, tt)
@@ -112,7 +112,7 @@ module _ (A : Type 0) (s : Seat) (a : AtpState) (which : ℕ) where
   released reception.Released = (refl, tt)
   released (reception.New key) = (tt, tt)
 
-  service : (t : Taken) (user bytes : List ℕ) (said : Reply A) (x : Reception)
+  service : (t : Received) (user bytes : List ℕ) (said : Reply A) (x : Reception)
       → IsOfTransactions A (Gets which) (over (with_transactions a) (at_service s a.transactions t user bytes said x))
   service t user bytes said reception.Ignored =
       (all_sent atp_kind (serving s.net s.number) (spelled_all t.sent), (tt, tt))
@@ -128,17 +128,17 @@ module _ (A : Type 0) (s : Seat) (a : AtpState) (which : ℕ) where
       → IsOfTransactions A (Gets which) o
   serves said from (Request mask xo timer tid user bytes) o at =
       let f : Content = Request mask xo timer tid user bytes in
-      let t = taken a.transactions.service_responder from f in
+      let t = received a.transactions.service_responder from f in
       full (with_transactions a) a.transactions (finds_no_place a.transactions.service_responder from f) o
       (at_service s a.transactions t user bytes said t.reception) at
       (service t user bytes said t.reception)
   serves said from (Response place eom sts tid user bytes) o at = ignored o at
   serves said from (Release tid) o at =
-      let t = taken a.transactions.service_responder from (Release tid) in
+      let t = received a.transactions.service_responder from (Release tid) in
       by o (over (with_transactions a) (service_taken s a.transactions t (released_report t.reception))) at
       (all_sent atp_kind (serving s.net s.number) (spelled_all t.sent), released t.reception)
 
-  zones : (t : Taken) (packet : Packet) (x : Reception) → IsOfTransactions A (Gets which)
+  zones : (t : Received) (packet : Packet) (x : Reception) → IsOfTransactions A (Gets which)
       (over (with_zones a) (at_zones s a.zones t packet x))
   zones t packet reception.Ignored =
       (all_sent atp_kind (zones_at s.net s.number) (spelled_all t.sent), (tt, tt))
@@ -161,13 +161,13 @@ module _ (A : Type 0) (s : Seat) (a : AtpState) (which : ℕ) where
   serves_zones from tables (Request mask xo timer tid user bytes) o (inr at) = ignored (zoned o) (ap zoned at.1)
   serves_zones from tables (Request mask xo timer tid user bytes) o (inl at) =
       let f : Content = Request mask xo timer tid user bytes in
-      let t = taken a.zones.zone_responder from f in
+      let t = received a.zones.zone_responder from f in
       full (with_zones a) a.zones (finds_no_place a.zones.zone_responder from f) (zoned o)
       (at_zones s a.zones t (page_packet (table_of at.which tables) at.start) t.reception) (ap zoned at.outcome)
       (zones t (page_packet (table_of at.which tables) at.start) t.reception)
   serves_zones from tables (Response place eom sts tid user bytes) o at = ignored (zoned o) (ap zoned at)
   serves_zones from tables (Release tid) o at =
-      let t = taken a.zones.zone_responder from (Release tid) in
+      let t = received a.zones.zone_responder from (Release tid) in
       by (zoned o) (zoned (zone_taken s a.zones t (released_report t.reception))) (ap zoned at)
       (all_sent atp_kind (zones_at s.net s.number) (spelled_all t.sent), released t.reception)
 

@@ -10,14 +10,14 @@ use Rattle.at_atp_frame.specs.Packets.{Packet}
 use Rattle.at_atp_frame.specs.declared.fault.AtpFault.{AtpFault}
 use Rattle.at_atp_frame.specs.declared.fault.AtpFault.TheVariants.{AtpTooLong, Full, NoSuch}
 use Rattle.at_atp_requester.specs.Requests.{Requests, Retried, next_number, retried}
-use Rattle.at_atp_requester.specs.declared.step.Retry.{Retry}
-use Rattle.at_atp_requester.specs.declared.step.Retry.TheVariants as retry
+use Rattle.at_atp_requester.specs.declared.progress.Retry.{Retry}
+use Rattle.at_atp_requester.specs.declared.progress.Retry.TheVariants as retry
 use Rattle.at_atp_responder.specs.Records.{answer_fault, asked_for, expiry_fault, is_key}
 use Rattle.at_atp_responder.specs.declared.reception.Key.{Key}
 use Rattle.at_zip.specs.Fault as zip
 use Rattle.at_zip.specs.Tables.{Tables}
 use Rattle.at_zip.specs.Zones.{table_fault}
-use Rattle.at_zip.specs.declared.request.Which.{Which}
+use Rattle.at_zip.specs.declared.request.TableChoice.{TableChoice}
 use Rattle.at_zip.specs.declared.fault.ZipFault.{ZipFault}
 use Rattle.at_zone_socket.specs.AtpParts.{AtpState, with_transactions, with_zones}
 use Rattle.at_zone_socket.specs.ZoneSockets.{Reading}
@@ -76,23 +76,23 @@ module _ (A : Type 0) (call : Call A) (a : AtpState) where
   asking_bytes s to user bytes wanted xo retries false = asking s to user bytes wanted xo retries
       (next_number a.transactions.requester)
 
-  reading : (s : Seat) (kind : Which) (router : ℕ) (o : Option ℕ)
+  reading : (s : Seat) (kind : TableChoice) (router : ℕ) (o : Option ℕ)
       → IsOfTransactions A (Calls call) (reading_begins s a kind router o)
   reading s kind router None = call_refused (atp.number_of Full)
   reading s kind router (Some tid) = ((refl, tt), (refl, tt))
 
-  reading_zones : (s : Seat) (kind : Which) (router : Option ℕ) (now : Option Reading)
+  reading_zones : (s : Seat) (kind : TableChoice) (router : Option ℕ) (now : Option Reading)
       → IsOfTransactions A (Calls call) (zones_called s a kind router now)
   reading_zones s kind None now = (tt, (tt, tt))
   reading_zones s kind (Some router) (Some r) = (tt, (tt, tt))
   reading_zones s kind (Some router) None = reading s kind router (next_number a.transactions.requester)
 
-  setting : (tables : Tables) (kind : Which) (names : List (List ℕ)) (o : Option ZipFault)
+  setting : (tables : Tables) (kind : TableChoice) (names : List (List ℕ)) (o : Option ZipFault)
       → IsOfTransactions A (Calls call) (over (with_zones a) (table_set a.zones tables kind names o))
   setting tables kind names None = (tt, (refl, tt))
   setting tables kind names (Some fault) = call_refused (zip.number_of fault)
 
-  setting_zones : (kind : Which) (names : List (List ℕ)) (now : Option Tables)
+  setting_zones : (kind : TableChoice) (names : List (List ℕ)) (now : Option Tables)
       → IsOfTransactions A (Calls call) (over (with_zones a) (set_zones_called a.zones now kind names))
   setting_zones kind names None = (tt, (tt, tt))
   setting_zones kind names (Some tables) = setting tables kind names (table_fault names)

@@ -53,8 +53,8 @@ module _ (A : Type 0) (laws : HearingLaws A) (history : List Happening) (n : Nod
   came_in = Response place eom sts tid user bytes
 
   -- what the requester makes of it
-  abbrev taken : requests.Heard A
-  taken = heard {A = A} n.atp.transactions.requester s.from came_in
+  abbrev received : requests.Heard A
+  received = heard {A = A} n.atp.transactions.requester s.from came_in
 
   nothing_open : (x : Requests) → IsOpen (with_reading n.atp None (record n.atp.transactions { requester = x }))
   nothing_open x r reads = absurd (cc)
@@ -76,7 +76,7 @@ module _ (A : Type 0) (laws : HearingLaws A) (history : List Happening) (n : Nod
         let p = part in
         let a = p.0 in
         record {
-          which = which;
+          datagram = which;
           act = refl;
           read = r;
           reads = reads;
@@ -95,15 +95,15 @@ module _ (A : Type 0) (laws : HearingLaws A) (history : List Happening) (n : Nod
 
     reading_ends : (told : Report A) (o : Outcome A AtpState) → drawn_by told ≡ None → is_quiet told (Gets which)
         ≡ true → Tells r.which r.names (record { user = user; data_ = bytes }) told →
-        o ≡ ends_reading n.seat n.atp taken told → IsIts A history n (Gets which) (over (with_atp n) o)
+        o ≡ ends_reading n.seat n.atp received told → IsIts A history n (Gets which) (over (with_atp n) o)
     reading_ends told o none quiet tells is =
         subst (λ x. IsIts A history n (Gets which) (over (with_atp n) x)) (sym is)
-        (requester_happens A history n (Gets which) st (Hears which) taken.after None taken.sent told
-        (in_time (after A history) which s was_sent fresh) tt is_done none (nothing_open taken.after)
+        (requester_happens A history n (Gets which) st (Hears which) received.after None received.sent told
+        (in_time (after A history) which s was_sent fresh) tt is_done none (nothing_open received.after)
         (hears_matches A n.seat.net n.seat.number n.atp.zones.tables (after A history) which (Gets which) told quiet)
         (HasRead (record {
           came = came (after A history).asked (with_reading n.atp None
-              (record n.atp.transactions { requester = taken.after })) told;
+              (record n.atp.transactions { requester = received.after })) told;
           tells = tells;
           asked = refl;
           reading = refl;
@@ -117,7 +117,8 @@ module _ (A : Type 0) (laws : HearingLaws A) (history : List Happening) (n : Nod
         → length r.names + length p.names ≤ 1024
         → ((k : ℕ) → drawn_by o.report ≡ Some (Tid k)
         → NoneHolds (after A history).responders (asking n.seat.net n.seat.number) k) →
-        AsksOn n.seat n.atp taken s.from (r.names ++ p.names) o → IsIts A history n (Gets which) (over (with_atp n) o)
+        AsksOn n.seat n.atp received s.from (r.names ++ p.names) o
+        → IsIts A history n (Gets which) (over (with_atp n) o)
     reading_turns p o spelled last few free asks =
         let names = r.names ++ p.names in
         let kind = table_read n.atp.zones.reading in
@@ -173,7 +174,7 @@ module _ (A : Type 0) (laws : HearingLaws A) (history : List Happening) (n : Nod
     pub page_happens : (o : Outcome A AtpState)
         → ((k : ℕ) → drawn_by o.report ≡ Some (Tid k)
         → NoneHolds (after A history).responders (asking n.seat.net n.seat.number) k) →
-        ReadsPage n.seat n.atp taken s.from r.names (record { user = user; data_ = bytes }) o
+        ReadsPage n.seat n.atp received s.from r.names (record { user = user; data_ = bytes }) o
         → IsIts A history n (Gets which) (over (with_atp n) o)
     page_happens o free (inr h) = reading_ends (report.Zones (zip_report.Fault h.number)) o refl refl
         (Faulty (record { fault = h.fault; number = h.number; first = h.first; tells = refl })) h.outcome
@@ -181,10 +182,10 @@ module _ (A : Type 0) (laws : HearingLaws A) (history : List Happening) (n : Nod
         (h.page).last refl refl h.outcome
       where
         go : (long last : Bool) → nat_lt 1024 (length r.names + length (h.page).names) ≡ long → (h.page).last ≡ last →
-            MatchBool long (o ≡ ends_reading n.seat n.atp taken (report.Zones (zip_report.Fault 34)))
-            (MatchBool last (o ≡ ends_reading n.seat n.atp taken
+            MatchBool long (o ≡ ends_reading n.seat n.atp received (report.Zones (zip_report.Fault 34)))
+            (MatchBool last (o ≡ ends_reading n.seat n.atp received
             (report.Zones (zip_report.List (table_read n.atp.zones.reading) (r.names ++ (h.page).names))))
-            (AsksOn n.seat n.atp taken s.from (r.names ++ (h.page).names) o))
+            (AsksOn n.seat n.atp received s.from (r.names ++ (h.page).names) o))
             → IsIts A history n (Gets which) (over (with_atp n) o)
         go true last e f g = reading_ends (report.Zones (zip_report.Fault 34)) o refl refl
             (TooMany (record {

@@ -3,7 +3,7 @@ use Rattle.std.proofs.Common.{◌≡◌, ℕ, Bool, true, false, cond, List, [],
 use Rattle.std.specs.Prelude.{find}
 use Rattle.at_atp_frame.specs.Frames.{Content, Request, Release}
 use Rattle.at_atp_responder.specs.Once.{is_new_of}
-use Rattle.at_atp_responder.specs.Records.{is_key, taken, finds_no_place}
+use Rattle.at_atp_responder.specs.Records.{is_key, received, finds_no_place}
 use Rattle.at_atp_responder.specs.declared.reception.Key.{Key}
 use Rattle.at_atp_responder.specs.declared.reception.Reception.{Reception}
 use Rattle.at_atp_responder.specs.declared.reception.Reception.TheVariants as reception
@@ -67,27 +67,27 @@ module _ (A : Type 0) (laws : HearingLaws A) (history : List Happening) (n : Nod
 
       is_taken : done A (after A history) (Takes which)
           ≡ with_responder (after A history) (serving n.seat.net n.seat.number)
-          (taken n.atp.transactions.service_responder s.from f).after
-          (taken n.atp.transactions.service_responder s.from f).sent
+          (received n.atp.transactions.service_responder s.from f).after
+          (received n.atp.transactions.service_responder s.from f).sent
       is_taken = ap (network.takes_in (after A history)) was_sent
-          ∙ (λ i. with_responder (after A history) (to_is i) (taken (its_records i) s.from (packet_is i)).after
-          (taken (its_records i) s.from (packet_is i)).sent)
+          ∙ (λ i. with_responder (after A history) (to_is i) (received (its_records i) s.from (packet_is i)).after
+          (received (its_records i) s.from (packet_is i)).sent)
 
       -- a packet that is not delivered
-      quietly : (r : Report A) (x : Reception) → (taken n.atp.transactions.service_responder s.from f).reception ≡ x
+      quietly : (r : Report A) (x : Reception) → (received n.atp.transactions.service_responder s.from f).reception ≡ x
           → ((key : Key) → is_new_of key x ≡ false) → is_quiet r (Gets which) ≡ true → is_plain (Gets which) r ≡ true
           → drawn_by r ≡ None →
           IsIts A history n (Gets which)
           (over (with_atp n) (over (with_transactions n.atp)
-          (service_taken n.seat n.atp.transactions (taken n.atp.transactions.service_responder s.from f) r)))
+          (service_taken n.seat n.atp.transactions (received n.atp.transactions.service_responder s.from f) r)))
       quietly r x is old quiet plain none =
           service_happens A history n (Gets which) st (Takes which)
-          (taken n.atp.transactions.service_responder s.from f).after
-          (taken n.atp.transactions.service_responder s.from f).sent r
+          (received n.atp.transactions.service_responder s.from f).after
+          (received n.atp.transactions.service_responder s.from f).sent r
           (in_time (after A history) which s was_sent fresh) tt
           is_taken none
           (takes_quietly A n.seat.net n.seat.number n.atp.zones.tables (after A history) which s was_sent r x
-          ((λ i. (taken (its_records i) s.from (packet_is i)).reception) ∙ is) old quiet)
+          ((λ i. (received (its_records i) s.from (packet_is i)).reception) ∙ is) old quiet)
           (Plain (record { plain = plain; asked = refl; reading = refl }))
 
     -- ---- a release
@@ -95,44 +95,47 @@ module _ (A : Type 0) (laws : HearingLaws A) (history : List Happening) (n : Nod
     pub service_release : (tid : ℕ) → s.packet ≡ Release tid → s.to ≡ serving n.seat.net n.seat.number
         → IsIts A history n (Gets which)
         (over (with_atp n) (over (with_transactions n.atp)
-        (service_released n.seat n.atp.transactions (taken n.atp.transactions.service_responder s.from (Release tid)))))
+        (service_released n.seat n.atp.transactions (received n.atp.transactions.service_responder s.from
+        (Release tid)))))
     service_release tid packet_is to_is =
-        let plain = release_is_plain A which (taken n.atp.transactions.service_responder s.from (Release tid)).reception
+        let plain = release_is_plain A which (received n.atp.transactions.service_responder s.from
+        (Release tid)).reception
         in
         quietly to_is (Release tid) packet_is
-        (released_report (taken n.atp.transactions.service_responder s.from (Release tid)).reception)
-        (taken n.atp.transactions.service_responder s.from (Release tid)).reception refl
+        (released_report (received n.atp.transactions.service_responder s.from (Release tid)).reception)
+        (received n.atp.transactions.service_responder s.from (Release tid)).reception refl
         (λ key. release_is_old n.atp.transactions.service_responder (record { from = s.from; tid = tid })
         (find (is_key (record { from = s.from; tid = tid })) n.atp.transactions.service_responder) key)
-        (release_is_quiet A which (taken n.atp.transactions.service_responder s.from (Release tid)).reception) plain.0
+        (release_is_quiet A which (received n.atp.transactions.service_responder s.from
+        (Release tid)).reception) plain.0
         plain.1
 
     -- ---- a request
 
     module _ (to_is : s.to ≡ serving n.seat.net n.seat.number) (mask : ℕ) (xo : Bool) (timer tid : ℕ)
         (user bytes : List ℕ) (packet_is : s.packet ≡ Request mask xo timer tid user bytes) where
-      delivered : (key : Key) → (taken n.atp.transactions.service_responder s.from
+      delivered : (key : Key) → (received n.atp.transactions.service_responder s.from
           (Request mask xo timer tid user bytes)).reception
           ≡ reception.New key → IsIts A history n (Gets which)
           (over (with_atp n) (over (with_transactions n.atp) (handed_up n.seat n.atp.transactions
-          (taken n.atp.transactions.service_responder s.from (Request mask xo timer tid user bytes)) key user bytes
+          (received n.atp.transactions.service_responder s.from (Request mask xo timer tid user bytes)) key user bytes
           reply.Later)))
       delivered key is =
           let waits = laws.new_waits n.atp.transactions.service_responder s.from (Request mask xo timer tid user bytes)
           key is in
           let a = asks mask xo timer tid user bytes packet_is in
           service_happens A history n (Gets which) st (Takes which)
-          (taken n.atp.transactions.service_responder s.from (Request mask xo timer tid user bytes)).after []
+          (received n.atp.transactions.service_responder s.from (Request mask xo timer tid user bytes)).after []
           (report.Transactions (atp_report.Asked key user bytes)) (in_time (after A history) which s was_sent fresh) tt
           (is_taken to_is (Request mask xo timer tid user bytes) packet_is
           ∙ ap (with_responder (after A history) (serving n.seat.net n.seat.number)
-          (taken n.atp.transactions.service_responder s.from (Request mask xo timer tid user bytes)).after) waits.1)
+          (received n.atp.transactions.service_responder s.from (Request mask xo timer tid user bytes)).after) waits.1)
           refl
           (takes_new A n.seat.net n.seat.number n.atp.zones.tables (after A history) which s was_sent key user bytes
-          ((λ i. (taken (its_records to_is (Request mask xo timer tid user bytes) packet_is i) s.from
+          ((λ i. (received (its_records to_is (Request mask xo timer tid user bytes) packet_is i) s.from
           (packet_is i)).reception) ∙ is))
           (steps.Delivers (record {
-            which = which;
+            datagram = which;
             key = key;
             user = user;
             bytes = bytes;
@@ -151,9 +154,10 @@ module _ (A : Type 0) (laws : HearingLaws A) (history : List Happening) (n : Nod
 
       by_reception : (said : Reply A) (o : Outcome A AtpState) (r : Reception)
           → (is_asked o.report ≡ true → said ≡ reply.Later)
-          → (taken n.atp.transactions.service_responder s.from (Request mask xo timer tid user bytes)).reception ≡ r →
+          → (received n.atp.transactions.service_responder s.from (Request mask xo timer tid user bytes)).reception
+          ≡ r →
           o ≡ over (with_transactions n.atp) (at_service n.seat n.atp.transactions
-          (taken n.atp.transactions.service_responder s.from (Request mask xo timer tid user bytes)) user
+          (received n.atp.transactions.service_responder s.from (Request mask xo timer tid user bytes)) user
           bytes said r) → IsIts A history n (Gets which) (over (with_atp n) o)
       by_reception said o reception.Ignored later is at =
           subst (λ p. IsIts A history n (Gets which) (over (with_atp n) p)) (sym at)
@@ -172,7 +176,8 @@ module _ (A : Type 0) (laws : HearingLaws A) (history : List Happening) (n : Nod
           let is_later : said ≡ reply.Later = later (ap (λ (x : Outcome A AtpState). is_asked x.report) at) in
           subst (λ p. IsIts A history n (Gets which) (over (with_atp n) p))
           (sym (at ∙ ap (λ x. over (with_transactions n.atp) (handed_up n.seat n.atp.transactions
-          (taken n.atp.transactions.service_responder s.from (Request mask xo timer tid user bytes)) key user bytes x))
+          (received n.atp.transactions.service_responder s.from
+          (Request mask xo timer tid user bytes)) key user bytes x))
           is_later))
           (delivered key is)
 
@@ -185,14 +190,15 @@ module _ (A : Type 0) (laws : HearingLaws A) (history : List Happening) (n : Nod
         where
           go : (b : Bool) → o ≡ over (with_transactions n.atp)
               (cond b (idle n.atp.transactions (report.Refused 14))
-              (at_service n.seat n.atp.transactions (taken n.atp.transactions.service_responder s.from
+              (at_service n.seat n.atp.transactions (received n.atp.transactions.service_responder s.from
               (Request mask xo timer tid user bytes))
               user
-              bytes said (taken n.atp.transactions.service_responder s.from
+              bytes said (received n.atp.transactions.service_responder s.from
               (Request mask xo timer tid user bytes)).reception))
               → IsIts A history n (Gets which) (over (with_atp n) o)
           go true e = subst (λ p. IsIts A history n (Gets which) (over (with_atp n) p)) (sym e)
               (idle_happens A history n (Gets which) st (report.Refused 14) refl refl refl)
           go false e = by_reception said o
-              (taken n.atp.transactions.service_responder s.from (Request mask xo timer tid user bytes)).reception later
+              (received n.atp.transactions.service_responder s.from
+              (Request mask xo timer tid user bytes)).reception later
               refl e

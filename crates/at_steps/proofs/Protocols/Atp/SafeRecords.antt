@@ -11,7 +11,7 @@ use Rattle.at_atp_frame.specs.declared.fault.AtpFault.{AtpFault}
 use Rattle.at_atp_frame.specs.declared.fault.AtpFault.TheVariants as atps
 use Rattle.at_atp_responder.specs.Records.{AsksForEight, Record, State, Waiting, Answered, Released, answer_fault}
 use Rattle.at_atp_responder.specs.Records.{asked_for, expiry_fault, expiry_fault_of, fit, is_key, record_fault}
-use Rattle.at_atp_responder.specs.Records.{state_fault, taken}
+use Rattle.at_atp_responder.specs.Records.{state_fault, received}
 use Rattle.at_atp_responder.specs.declared.reception.Key.{Key}
 use Rattle.at_atp_responder.specs.declared.reception.Reception.TheVariants as reception
 use Rattle.at_zip.specs.Zones.{table_fault}
@@ -24,9 +24,9 @@ use Rattle.at_node.specs.Nodes.{NodeState}
 use Rattle.at_zone_socket.specs.AtpTimers.{expired, records_at, release_fired}
 use Rattle.at_transaction_socket.specs.ServiceSocket.{answered_with}
 use Rattle.at_zip.specs.Tables.{Tables}
-use Rattle.at_zip.specs.declared.request.Which.{Which}
+use Rattle.at_zip.specs.declared.request.TableChoice.{TableChoice}
 use Rattle.at_zone_socket.specs.ZoneSocket.{set_zones_called, table_set}
-use Rattle.at_steps.specs.Safety.{IsSafe, IsTrueOf, Place}
+use Rattle.at_steps.specs.Safety.{IsSafe, IsTrueOf, TransactionTable}
 use Rattle.at_event.specs.declared.Reason.TheVariants.{OfNodes, OfTransactions, OfZones}
 use Rattle.at_steps.proofs.Safety.By.{packets_few, quiet, refused}
 
@@ -34,10 +34,10 @@ use Rattle.at_steps.proofs.Safety.By.{packets_few, quiet, refused}
 pub record RecordLaws : Type 0 where
   pub answered : (o : Option Record) (key : Key) (packets : List Packet)
       → length (asked_for o key packets) ≤ length packets
-  pub came : (rs : List Record) (from : Address) (f : Content) → AsksForEight f → length (taken rs from f).sent ≤ 8
+  pub came : (rs : List Record) (from : Address) (f : Content) → AsksForEight f → length (received rs from f).sent ≤ 8
   pub replied : (rs : List Record) (from : Address) (f : Content) (key : Key) (packets : List Packet) → AsksForEight f
-      → (taken rs from f).reception ≡ reception.New key
-      → length (asked_for (find (is_key key) (taken rs from f).after) key packets) ≤ 8
+      → (received rs from f).reception ≡ reception.New key
+      → length (asked_for (find (is_key key) (received rs from f).after) key packets) ≤ 8
 
 -- an answer that is not refused has eight packets at most
 answer_fits : (rs : List Record) (key : Key) (packets : List Packet) → answer_fault rs key packets ≡ None
@@ -51,7 +51,7 @@ answer_fits rs key (p ∷ ps) is = go (nat_le (length (p ∷ ps)) 8) (fit (p ∷
     go true fits le h = grind (arith, nat_tests, le)
     go false fits le h = absurd (cc)
 
-module _ (A : Type 0) (n : NodeState) (Wants : Place → Type 0) where
+module _ (A : Type 0) (n : NodeState) (Wants : TransactionTable → Type 0) where
   abbrev Safe : Outcome A AtpState → Type 0
   Safe o = IsSafe Wants n n.atp o
 
@@ -63,13 +63,13 @@ module _ (A : Type 0) (n : NodeState) (Wants : Place → Type 0) where
 
   -- ---- calls and timers
 
-  table_safe : (tables : Tables) (kind : Which) (names : List (List ℕ)) (fault : Option ZipFault)
+  table_safe : (tables : Tables) (kind : TableChoice) (names : List (List ℕ)) (fault : Option ZipFault)
       → Safe (over (with_zones n.atp) (table_set n.atp.zones tables kind names fault))
   table_safe tables kind names None = quiet A Wants n n.atp
       (over (with_zones n.atp) (table_set n.atp.zones tables kind names None)) refl (omega arith)
   table_safe tables kind names (Some fault) = refused A Wants n n.atp (OfZones fault) tt
 
-  pub set_zones_safe : (kind : Which) (names : List (List ℕ)) (tables : Option Tables)
+  pub set_zones_safe : (kind : TableChoice) (names : List (List ℕ)) (tables : Option Tables)
       → Safe (over (with_zones n.atp) (set_zones_called n.atp.zones tables kind names))
   set_zones_safe kind names None = refused A Wants n n.atp (OfNodes nodes.NoRouter) tt
   set_zones_safe kind names (Some tables) = table_safe tables kind names (table_fault names)

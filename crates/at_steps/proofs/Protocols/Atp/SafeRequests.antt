@@ -9,12 +9,12 @@ use Rattle.at_atp_frame.specs.Fault as atp
 use Rattle.at_atp_frame.specs.Frames.{Content, Request, Response, Release}
 use Rattle.at_atp_frame.specs.Packets.{Packet}
 use Rattle.at_atp_frame.specs.declared.fault.AtpFault.TheVariants as atps
-use Rattle.at_atp_requester.specs.Answers.{Arrival, is_wanted, whole, with_part}
+use Rattle.at_atp_requester.specs.Answers.{AnswerPart, is_wanted, whole, with_part}
 use Rattle.at_atp_requester.specs.Requests.{Heard, Requests, Transaction, came_for, heard, is_numbered, is_of}
 use Rattle.at_atp_requester.specs.Requests.{next_number, response_came, retried, retried_with, was_kept}
-use Rattle.at_atp_requester.specs.declared.step.Retry.TheVariants as retry
-use Rattle.at_atp_requester.specs.declared.step.Step.{Step}
-use Rattle.at_atp_requester.specs.declared.step.Step.TheVariants as step
+use Rattle.at_atp_requester.specs.declared.progress.Retry.TheVariants as retry
+use Rattle.at_atp_requester.specs.declared.progress.RequestProgress.{RequestProgress}
+use Rattle.at_atp_requester.specs.declared.progress.RequestProgress.TheVariants as step
 use Rattle.at_zip.specs.Page.{Page}
 use Rattle.at_zip.specs.Fault as zip
 use Rattle.at_zip.specs.declared.fault.ZipFault.{ZipFault}
@@ -34,8 +34,8 @@ use Rattle.at_transaction_socket.specs.RequesterSocket.{asked_as, hears_other, r
 use Rattle.at_zone_socket.specs.ZoneReading.{AsksOn, ReadsPage, TakesPage, after_failing, is_page, is_reading}
 use Rattle.at_zone_socket.specs.ZoneReading.{names_read, page_transaction, reading_begins, table_read, zones_called}
 use Rattle.at_zone_socket.specs.ZoneReading.{reading_ends}
-use Rattle.at_zip.specs.declared.request.Which.{Which}
-use Rattle.at_steps.specs.Safety.{Asking, IsPlaceOfCall, IsSafe, Place, number_told}
+use Rattle.at_zip.specs.declared.request.TableChoice.{TableChoice}
+use Rattle.at_steps.specs.Safety.{Asking, IsTableOfCall, IsSafe, TransactionTable, number_told}
 use Rattle.at_event.specs.declared.Reason.TheVariants.{OfNodes, OfTransactions}
 use Rattle.at_steps.proofs.Safety.By.{by, packets_few, page_faulted, quiet, refused}
 
@@ -55,14 +55,14 @@ kept_one A t sts (Some packets) = go t.xo
 kept_one A t true None = omega arith
 kept_one A t false None = omega arith
 
-came_one : (A : Type 0) (t : Transaction) (place : ℕ) (part : Arrival) (sts wanted : Bool)
+came_one : (A : Type 0) (t : Transaction) (place : ℕ) (part : AnswerPart) (sts wanted : Bool)
     → length (came_for {A = A} t place part sts wanted).sent ≤ 1
 came_one A t place part sts true =
     kept_one A (record t { parts = with_part t.parts place part }) sts (whole (with_part t.parts place part))
 came_one A t place part true false = omega arith
 came_one A t place part false false = omega arith
 
-response_one : (A : Type 0) (r : Requests) (this : Transaction → Bool) (place : ℕ) (part : Arrival) (sts : Bool)
+response_one : (A : Type 0) (r : Requests) (this : Transaction → Bool) (place : ℕ) (part : AnswerPart) (sts : Bool)
     (o : Option Transaction) → length (response_came {A = A} r this place part sts o).sent ≤ 1
 response_one A r this place part sts None = omega arith
 response_one A r this place part sts (Some t) = came_one A t place part sts (is_wanted t.parts place)
@@ -79,7 +79,7 @@ module _ (A : Type 0) (n : NodeState) where
 
   module _ (free : NumbersAreFree) where
     abbrev Calling : Outcome A AtpState → Type 0
-    Calling o = IsSafe IsPlaceOfCall n n.atp o
+    Calling o = IsSafe IsTableOfCall n n.atp o
 
     full : next_number n.atp.transactions.requester ≡ None → 32 ≤ length n.atp.transactions.requester.standing
     full none = go (nat_lt (length n.atp.transactions.requester.standing) 32) refl
@@ -94,14 +94,14 @@ module _ (A : Type 0) (n : NodeState) where
 
     refused_full : next_number n.atp.transactions.requester ≡ None → Calling
         (idle n.atp (refused_as (atp.number_of atps.Full)))
-    refused_full none = refused A IsPlaceOfCall n n.atp (OfTransactions atps.Full) (Asking, refl, full none)
+    refused_full none = refused A IsTableOfCall n n.atp (OfTransactions atps.Full) (Asking, refl, full none)
 
     pub asking_safe : (to : Address) (user bytes : List ℕ) (wanted : ℕ) (xo : Bool) (retries : ℕ) (tid : Option ℕ)
         → next_number n.atp.transactions.requester ≡ tid → Calling
         (over (with_transactions n.atp) (asked_as n.seat n.atp.transactions to user bytes wanted xo retries tid))
     asking_safe to user bytes wanted xo retries None is = refused_full is
     asking_safe to user bytes wanted xo retries (Some tid) is =
-        quiet A IsPlaceOfCall n n.atp (over (with_transactions n.atp)
+        quiet A IsTableOfCall n n.atp (over (with_transactions n.atp)
         (asked_as n.seat n.atp.transactions to user bytes wanted xo retries (Some tid))) refl
         (omega arith)
 
@@ -111,25 +111,25 @@ module _ (A : Type 0) (n : NodeState) where
         (asked_as n.seat n.atp.transactions to user bytes wanted xo retries
         (next_number n.atp.transactions.requester))))
     ask_safe to user bytes wanted xo retries true =
-        refused A IsPlaceOfCall n n.atp (OfTransactions atps.AtpTooLong) tt
+        refused A IsTableOfCall n n.atp (OfTransactions atps.AtpTooLong) tt
     ask_safe to user bytes wanted xo retries false =
         asking_safe to user bytes wanted xo retries (next_number n.atp.transactions.requester) refl
 
-    begins_safe : (kind : Which) (router : ℕ) (tid : Option ℕ) → next_number n.atp.transactions.requester ≡ tid
+    begins_safe : (kind : TableChoice) (router : ℕ) (tid : Option ℕ) → next_number n.atp.transactions.requester ≡ tid
         → Calling (reading_begins n.seat n.atp kind router tid)
     begins_safe kind router None is = refused_full is
     begins_safe kind router (Some tid) is =
-        quiet A IsPlaceOfCall n n.atp (reading_begins n.seat n.atp kind router (Some tid)) refl (omega arith)
+        quiet A IsTableOfCall n n.atp (reading_begins n.seat n.atp kind router (Some tid)) refl (omega arith)
 
-    pub zones_safe : (kind : Which) (router : Option ℕ) (reading : Option Reading)
+    pub zones_safe : (kind : TableChoice) (router : Option ℕ) (reading : Option Reading)
         → Calling (zones_called n.seat n.atp kind router reading)
-    zones_safe kind None reading = refused A IsPlaceOfCall n n.atp (OfNodes nodes.NoRouter) tt
-    zones_safe kind (Some router) (Some r) = refused A IsPlaceOfCall n n.atp (OfNodes nodes.StillReading) tt
+    zones_safe kind None reading = refused A IsTableOfCall n n.atp (OfNodes nodes.NoRouter) tt
+    zones_safe kind (Some router) (Some r) = refused A IsTableOfCall n n.atp (OfNodes nodes.StillReading) tt
     zones_safe kind (Some router) None = begins_safe kind router (next_number n.atp.transactions.requester) refl
 
   -- ---- the timer
 
-  module _ (Wants : Place → Type 0) where
+  module _ (Wants : TransactionTable → Type 0) where
     abbrev Safe : Outcome A AtpState → Type 0
     Safe o = IsSafe Wants n n.atp o
 
@@ -175,7 +175,7 @@ module _ (A : Type 0) (n : NodeState) where
         (reading_ends n.seat n.atp h (report.Zones (zip_report.Fault number))) numbered
         refl (packets_few (asking_at n.seat.net n.seat.number) atp_kind h.sent 131070 (omega (arith, one))))
 
-    other_quiet : (tid : ℕ) (x : Step A) → number_told (reported_other tid x) ≡ None
+    other_quiet : (tid : ℕ) (x : RequestProgress A) → number_told (reported_other tid x) ≡ None
     other_quiet tid step.Ignored = refl
     other_quiet tid step.Kept = refl
     other_quiet tid step.AskAgain = refl

@@ -11,8 +11,8 @@ use Rattle.at_atp_frame.specs.Frames.{Content, Request, Response, Release, Spell
 use Rattle.at_atp_frame.specs.Packets.{Packet}
 use Rattle.at_atp_frame.specs.declared.fault.AtpFault.{AtpFault}
 use Rattle.at_atp_frame.specs.declared.fault.AtpFault.TheVariants as atps
-use Rattle.at_atp_responder.specs.Records.{AsksForEight, Record, Taken, asked_for, finds_no_place, is_key}
-use Rattle.at_atp_responder.specs.Records.{is_new_and_full, is_passed_over, taken}
+use Rattle.at_atp_responder.specs.Records.{AsksForEight, Record, Received, asked_for, finds_no_place, is_key}
+use Rattle.at_atp_responder.specs.Records.{is_new_and_full, is_passed_over, received}
 use Rattle.at_atp_responder.specs.declared.reception.Key.{Key}
 use Rattle.at_atp_responder.specs.declared.reception.Reception.{Reception}
 use Rattle.at_atp_responder.specs.declared.reception.Reception.TheVariants as reception
@@ -33,7 +33,7 @@ use Rattle.at_transaction_socket.specs.ServiceSocket.{service_heard, at_service,
 use Rattle.at_transaction_socket.specs.ServiceSocket.{service_taken}
 use Rattle.at_zip.specs.Tables.{Tables, table_of}
 use Rattle.at_zone_socket.specs.ZoneSocket.{AtZones, at_zones, page_packet, zone_served, zone_taken}
-use Rattle.at_steps.specs.Safety.{IsSafe, IsTrueOf, Place, Records, number_told}
+use Rattle.at_steps.specs.Safety.{IsSafe, IsTrueOf, TransactionTable, Records, number_told}
 use Rattle.at_event.specs.declared.Reason.TheVariants.{OfTransactions}
 use Rattle.at_steps.proofs.Safety.By.{by, faulted, packets_few, quiet, refused}
 use Rattle.at_steps.proofs.Protocols.Atp.SafeRecords.{RecordLaws}
@@ -96,7 +96,7 @@ socket_at a socket x = go (socket == 128) (socket == 129) (socket == 6) refl ref
     go false false true is was h = whole false true x is was (zones a.zones.tables h)
     go false false false is was h = absurd (cc)
 
-module _ (A : Type 0) (n : NodeState) (Wants : Place → Type 0) where
+module _ (A : Type 0) (n : NodeState) (Wants : TransactionTable → Type 0) where
   abbrev Safe : Outcome A AtpState → Type 0
   Safe o = IsSafe Wants n n.atp o
 
@@ -128,67 +128,69 @@ module _ (A : Type 0) (n : NodeState) (Wants : Place → Type 0) where
 
     -- at the service
 
-    service_few : (t : Taken) → length t.sent ≤ 8
+    service_few : (t : Received) → length t.sent ≤ 8
         → length (sent_by (serving n.seat.net n.seat.number) atp_kind (spelled_all t.sent)) ≤ 131070
     service_few t eight =
         packets_few (serving n.seat.net n.seat.number) atp_kind t.sent 131070 (omega (arith, eight))
 
     module _ (from : Address) (f : Content) (asks : AsksForEight f) where
-      service_eight : length (taken n.atp.transactions.service_responder from f).sent ≤ 8
+      service_eight : length (received n.atp.transactions.service_responder from f).sent ≤ 8
       service_eight = laws.came n.atp.transactions.service_responder from f asks
 
       handed_up_few : (key : Key) (said : Reply A)
-          → (taken n.atp.transactions.service_responder from f).reception ≡ reception.New key
-          → length (sent_by_reply (taken n.atp.transactions.service_responder from f).after key said) ≤ 8
+          → (received n.atp.transactions.service_responder from f).reception ≡ reception.New key
+          → length (sent_by_reply (received n.atp.transactions.service_responder from f).after key said) ≤ 8
       handed_up_few key reply.Later new = omega arith
       handed_up_few key (reply.Now packets) new = laws.replied n.atp.transactions.service_responder from f key packets
           asks new
 
       service_safe : (user bytes : List ℕ) (said : Reply A) (x : Reception)
-          → (taken n.atp.transactions.service_responder from f).reception ≡ x
+          → (received n.atp.transactions.service_responder from f).reception ≡ x
           → Safe (over (with_transactions n.atp) (at_service n.seat n.atp.transactions
-          (taken n.atp.transactions.service_responder from f) user bytes said x))
+          (received n.atp.transactions.service_responder from f) user bytes said x))
       service_safe user bytes said reception.Ignored is =
-          let t = taken n.atp.transactions.service_responder from f in
+          let t = received n.atp.transactions.service_responder from f in
           quiet A Wants n n.atp (over (with_transactions n.atp)
           (service_taken n.seat n.atp.transactions t report.Ignored)) refl (service_few t service_eight)
       service_safe user bytes said (reception.Again count) is =
-          let t = taken n.atp.transactions.service_responder from f in
+          let t = received n.atp.transactions.service_responder from f in
           quiet A Wants n n.atp (over (with_transactions n.atp)
           (service_taken n.seat n.atp.transactions t report.Again)) refl (service_few t service_eight)
       service_safe user bytes said reception.Released is =
-          let t = taken n.atp.transactions.service_responder from f in
+          let t = received n.atp.transactions.service_responder from f in
           quiet A Wants n n.atp (over (with_transactions n.atp)
           (service_taken n.seat n.atp.transactions t (report.Transactions atp_report.Released))) refl
           (service_few t service_eight)
       service_safe user bytes said (reception.New key) is =
-          let t = taken n.atp.transactions.service_responder from f in
+          let t = received n.atp.transactions.service_responder from f in
           quiet A Wants n n.atp (over (with_transactions n.atp)
           (handed_up n.seat n.atp.transactions t key user bytes said)) refl
           (packets_few (serving n.seat.net n.seat.number) atp_kind (sent_by_reply t.after key said) 131070
           (omega (arith, handed_up_few key said is)))
 
       zone_few : length (sent_by (zones_at n.seat.net n.seat.number) atp_kind
-          (spelled_all (taken n.atp.zones.zone_responder from f).sent)) ≤ 131070
+          (spelled_all (received n.atp.zones.zone_responder from f).sent)) ≤ 131070
       zone_few =
-          packets_few (zones_at n.seat.net n.seat.number) atp_kind (taken n.atp.zones.zone_responder from f).sent 131070
+          packets_few (zones_at n.seat.net n.seat.number) atp_kind
+          (received n.atp.zones.zone_responder from f).sent 131070
           (omega (arith, laws.came n.atp.zones.zone_responder from f asks))
 
       zones_safe : (packet : Packet) (x : Reception)
-          → Safe (over (with_zones n.atp) (at_zones n.seat n.atp.zones (taken n.atp.zones.zone_responder from f) packet
+          → Safe (over (with_zones n.atp) (at_zones n.seat n.atp.zones
+          (received n.atp.zones.zone_responder from f) packet
           x))
       zones_safe packet reception.Ignored =
-          let t = taken n.atp.zones.zone_responder from f in
+          let t = received n.atp.zones.zone_responder from f in
           quiet A Wants n n.atp (over (with_zones n.atp) (zone_taken n.seat n.atp.zones t report.Ignored)) refl zone_few
       zones_safe packet (reception.Again count) =
-          let t = taken n.atp.zones.zone_responder from f in
+          let t = received n.atp.zones.zone_responder from f in
           quiet A Wants n n.atp (over (with_zones n.atp) (zone_taken n.seat n.atp.zones t report.Again)) refl zone_few
       zones_safe packet reception.Released =
-          let t = taken n.atp.zones.zone_responder from f in
+          let t = received n.atp.zones.zone_responder from f in
           quiet A Wants n n.atp (over (with_zones n.atp)
           (zone_taken n.seat n.atp.zones t (report.Transactions atp_report.Released))) refl zone_few
       zones_safe packet (reception.New key) =
-          let t = taken n.atp.zones.zone_responder from f in
+          let t = received n.atp.zones.zone_responder from f in
           let sent = asked_for (find (is_key key) t.after) key (packet ∷ []) in
           let one = laws.answered (find (is_key key) t.after) key (packet ∷ []) in
           quiet A Wants n n.atp (over (with_zones n.atp) (zone_served n.seat n.atp.zones t key packet)) refl
@@ -200,14 +202,14 @@ module _ (A : Type 0) (n : NodeState) (Wants : Place → Type 0) where
     serves said from (Request mask xo timer tid user bytes) o asks there at =
         let f : Content = Request mask xo timer tid user bytes in
         let rs = n.atp.transactions.service_responder in
-        let t = taken rs from f in
+        let t = received rs from f in
         or_full (with_transactions n.atp) n.atp.transactions refl (finds_no_place rs from f) o
         (at_service n.seat n.atp.transactions t user bytes said t.reception)
         (service_safe from f asks user bytes said t.reception refl)
         (λ no. full_true rs there (full_records rs from f no)) at
     serves said from (Response place eom sts tid user bytes) o asks there at = ignored o at
     serves said from (Release tid) o asks there at =
-        let t = taken n.atp.transactions.service_responder from (Release tid) in
+        let t = received n.atp.transactions.service_responder from (Release tid) in
         let q = over (with_transactions n.atp) (service_taken n.seat n.atp.transactions t (released_report t.reception))
         in
         by A Wants n n.atp o q at
@@ -225,14 +227,14 @@ module _ (A : Type 0) (n : NodeState) (Wants : Place → Type 0) where
     serves_zones from tables (Request mask xo timer tid user bytes) o asks there (inl at) =
         let f : Content = Request mask xo timer tid user bytes in
         let rs = n.atp.zones.zone_responder in
-        let t = taken rs from f in
+        let t = received rs from f in
         let page = page_packet (table_of at.which tables) at.start in
         or_full (with_zones n.atp) n.atp.zones refl (finds_no_place rs from f) (zoned o)
         (at_zones n.seat n.atp.zones t page t.reception) (zones_safe from f asks page t.reception)
         (λ no. full_true rs there (full_records rs from f no)) (ap zoned at.outcome)
     serves_zones from tables (Response place eom sts tid user bytes) o asks there at = ignored (zoned o) (ap zoned at)
     serves_zones from tables (Release tid) o asks there at =
-        let t = taken n.atp.zones.zone_responder from (Release tid) in
+        let t = received n.atp.zones.zone_responder from (Release tid) in
         let q = zoned (zone_taken n.seat n.atp.zones t (released_report t.reception)) in
         by A Wants n n.atp (zoned o) q (ap zoned at)
         (quiet A Wants n n.atp q (released_quiet t.reception) (zone_few from (Release tid) asks))

@@ -12,7 +12,7 @@ use Rattle.at_atp.specs.Network.{Expires, Retries, Other, Happening, done}
 use Rattle.at_atp_responder.specs.Once.{is_new_of, same_key}
 use Rattle.at_atp_frame.specs.Packets.{Packet}
 use Rattle.at_atp_responder.specs.Records.{Record, State, Waiting, Answered, Released, is_key, came_again, released}
-use Rattle.at_atp_responder.specs.Records.{release_came, taken, expiry_fault}
+use Rattle.at_atp_responder.specs.Records.{release_came, received, expiry_fault}
 use Rattle.at_atp.specs.Transactions.{answered}
 use Rattle.at_atp_requester.specs.Requests.{next_number}
 use Rattle.at_atp_responder.specs.declared.reception.Key.{Key}
@@ -186,7 +186,7 @@ module _ (A : Type 0) (net number : ℕ) (tables : Option Tables) (n : Network) 
 
   module _ (which : ℕ) (s : Sent) (was_sent : packet_at n.sent which ≡ Some s) where
     -- a packet that hands nothing up
-    pub takes_quietly : (r : Report A) (x : Reception) → (taken (n.responders s.to) s.from s.packet).reception ≡ x
+    pub takes_quietly : (r : Report A) (x : Reception) → (received (n.responders s.to) s.from s.packet).reception ≡ x
         → ((key : Key) → is_new_of key x ≡ false) → is_quiet r (Gets which) ≡ true
         → Matches net number tables n (Takes which) (Gets which) r
     takes_quietly r x is old q =
@@ -194,7 +194,7 @@ module _ (A : Type 0) (net number : ℕ) (tables : Option Tables) (n : Network) 
         (λ key. ap (brings n key) was_sent ∙ ap (is_new_of key) is ∙ old key) refl tt tt
 
     -- a request that is delivered
-    pub takes_new : (key : Key) (user bytes : List ℕ) → (taken (n.responders s.to) s.from s.packet).reception
+    pub takes_new : (key : Key) (user bytes : List ℕ) → (received (n.responders s.to) s.from s.packet).reception
         ≡ reception.New key → Matches {A = A} net number tables n (Takes which) (Gets which)
         (report.Transactions (atp_report.Asked key user bytes))
     takes_new new user bytes is =
@@ -211,7 +211,7 @@ module _ (A : Type 0) (net number : ℕ) (tables : Option Tables) (n : Network) 
 
     -- a request that is answered at once
     pub serves_new : (key : Key) (packets : List Packet) (count : ℕ)
-        → (taken (n.responders s.to) s.from s.packet).reception ≡ reception.New key → key
+        → (received (n.responders s.to) s.from s.packet).reception ≡ reception.New key → key
         ≡ record { from = s.from; tid = number_of s.packet } →
         (done A n (Serves which packets)).asked ≡ answered n.asked s.from (number_of s.packet) packets
         → IsPageAsked tables n which packets

@@ -10,8 +10,8 @@ use Rattle.at_ddp.specs.declared.address.Address.{Address}
 use Rattle.at_atp_frame.specs.Fault.{number_of}
 use Rattle.at_atp_frame.specs.declared.fault.AtpFault.{AtpFault}
 use Rattle.at_atp_requester.specs.Requests.{Requests, Retried, Transaction, is_numbered, retried_with, retried}
-use Rattle.at_atp_requester.specs.declared.step.Retry.{Retry}
-use Rattle.at_atp_requester.specs.declared.step.Retry.TheVariants as retry
+use Rattle.at_atp_requester.specs.declared.progress.Retry.{Retry}
+use Rattle.at_atp_requester.specs.declared.progress.Retry.TheVariants as retry
 use Rattle.at_atp_responder.specs.Records.{Record, expiry_fault, is_key}
 use Rattle.at_atp_responder.specs.declared.reception.Key.{Key}
 use Rattle.at_atp.specs.Network as network
@@ -20,7 +20,7 @@ use Rattle.at_atp.specs.Network.{Happening, Expires, Retries, after, done, with_
 use Rattle.at_zone_socket.specs.AtpParts.{AtpState, with_reading, with_transactions, with_zones}
 use Rattle.at_zone_socket.specs.ZoneSockets.{Reading, zones_at}
 use Rattle.at_transaction_socket.specs.TransactionSockets.{serving, asking}
-use Rattle.at_event.specs.Kinds.{kind_of_timer}
+use Rattle.at_event.specs.Kinds.{speaker_of_timer}
 use Rattle.at_node.specs.Nodes.{with_atp, NodeState, timed}
 use Rattle.at_event.specs.Outcomes.{over, Outcome, idle, refused_as}
 use Rattle.at_zone_socket.specs.AtpTimers.{after_retry, retry_fired, records_at}
@@ -224,7 +224,7 @@ module _ (A : Type 0) (history : List Happening) (n : NodeState) (st : Stands A 
   release_happens false false None ex ey is = absurd (cc)
 
 pub timer_happens : (A : Type 0) (stays : StaysOpen) (history : List Happening) (n : NodeState)
-    (st : Stands A history n.seat.net n.seat.number n) (time : Timer) → is_atp (kind_of_timer time) ≡ true
+    (st : Stands A history n.seat.net n.seat.number n) (time : Timer) → is_atp (speaker_of_timer time) ≡ true
     → IsIts A history n (Fires time) (timed n time)
 timer_happens A stays history n st (timer.Transactions (atp_timer.Retry tid)) its =
     retry_happens A stays history n st tid (retried n.atp.transactions.requester tid) refl

@@ -22,7 +22,7 @@ use Rattle.at_name_socket.specs.declared.step.Finished.TheVariants as finished
 use Rattle.at_event.specs.Kinds.{IsCall}
 use Rattle.at_event.specs.Kinds.Names.{IsZone}
 use Rattle.at_node.specs.Numbers.{drawn_by}
-use Rattle.at_event.specs.Kinds.{kind_of_call}
+use Rattle.at_event.specs.Kinds.{speaker_of_call}
 use Rattle.at_node.specs.NameCalls.{claimed_as, finish_called, finished_as, found_as, refused_by, registered_as}
 use Rattle.at_node.specs.NameCalls.{told_of, unregistered_as, without_name}
 use Rattle.at_session.specs.Sessions.{SessionState, finds_kept, pattern_asked, zone_asked, zone_picked}
@@ -275,7 +275,7 @@ module _ (A : Type 0) (laws : CallLaws A) (setting : Setting) (history : List Ha
         }),
       )
 
-  pub call_happens : (call : Call A) → IsCall call → is_nbp (kind_of_call call) ≡ true
+  pub call_happens : (call : Call A) → IsCall call → is_nbp (speaker_of_call call) ≡ true
       → IsIts A setting history n (Calls call) (called n call)
   call_happens (Names (Find object kind zone)) range its =
       finding object kind zone range.0 range.1 range.2 (next_id n.names.lookups) refl

@@ -36,7 +36,7 @@ use Rattle.at_node.specs.NameCalls.{told_of, unregister_called, unregistered_as}
 use Rattle.at_node.specs.NameHearing.{HearsName, HearsNames, HearsNbpFault, told_by}
 use Rattle.at_node.specs.Nodes.{NodeState, called, over_finish, timed, with_names}
 use Rattle.at_session.specs.Sessions.{pattern_asked}
-use Rattle.at_steps.specs.Safety.{IsSafe, IsTrueOf, Place, number_told}
+use Rattle.at_steps.specs.Safety.{IsSafe, IsTrueOf, TransactionTable, number_told}
 use Rattle.at_event.specs.declared.Reason.TheVariants.{OfNames}
 use Rattle.at_steps.proofs.Safety.By.{by, faulted, quiet, refused, sent_few, through}
 
@@ -46,7 +46,7 @@ pub record NameLaws : Type 0 where
   pub few : (s : SocketState) (bytes : List ℕ) (h : Heard) (new : SocketState) (pushes : List (Address × List ℕ))
       → AreNames s.table.names → SocketHears s bytes h new pushes → length pushes ≤ 64
 
-module _ (A : Type 0) (n : NodeState) (Wants : Place → Type 0) (laws : NameLaws) (within : IsWithin n) where
+module _ (A : Type 0) (n : NodeState) (Wants : TransactionTable → Type 0) (laws : NameLaws) (within : IsWithin n) where
   abbrev Safe : Outcome A SocketState → Type 0
   Safe o = IsSafe Wants n n.names o
 

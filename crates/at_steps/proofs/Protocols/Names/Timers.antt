@@ -6,7 +6,7 @@ use Rattle.at_nbp.specs.Network.{Happening, Setting, after}
 use Rattle.at_nbp.specs.declared.fault.NbpFault.TheVariants.{NoSuchLookup}
 use Rattle.at_name_socket.specs.NameSockets.{names_of}
 use Rattle.at_name_socket.specs.Sockets.{Stays}
-use Rattle.at_event.specs.Kinds.{kind_of_timer}
+use Rattle.at_event.specs.Kinds.{speaker_of_timer}
 use Rattle.at_node.specs.NameCalls.{asked_again}
 use Rattle.at_node.specs.Nodes.{NodeState, timed, with_names}
 use Rattle.at_event.specs.Outcomes.{over}
@@ -36,7 +36,7 @@ module _ (A : Type 0) (laws : TimerLaws) (setting : Setting) (history : List Hap
         Plain (record { plain = refl; table = refl; lookups = λ i. refl }),
       )
 
-  pub timer_happens : (time : Timer) → is_nbp (kind_of_timer time) ≡ true
+  pub timer_happens : (time : Timer) → is_nbp (speaker_of_timer time) ≡ true
       → IsIts A setting history n (Fires time) (timed n time)
   timer_happens (timer.Names (nbp_timer.Lookup id)) its = asking id (search_of n.names.lookups id) refl
   timer_happens other its = absurd (cc)

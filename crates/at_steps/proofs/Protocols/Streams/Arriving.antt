@@ -6,8 +6,8 @@ use Rattle.at_ddp.specs.Datagram.{canonical, written}
 use Rattle.at_ddp.specs.declared.address.Address.{Address}
 use Rattle.at_adsp_frame.specs.Segments.{spelled}
 use Rattle.at_adsp_end.specs.Positions.{wire}
-use Rattle.at_adsp_end.specs.declared.step.Step.{Step}
-use Rattle.at_adsp_end.specs.declared.step.Step.TheVariants as step
+use Rattle.at_adsp_end.specs.declared.change.EndChange.{EndChange}
+use Rattle.at_adsp_end.specs.declared.change.EndChange.TheVariants as step
 use Rattle.at_adsp_ends.specs.Receiving.{received}
 use Rattle.at_adsp_ends.specs.Tables.{Done, EndTable}
 use Rattle.at_adsp.specs.Connections.{AfterSegment, AfterStep, streams}
@@ -78,7 +78,7 @@ module _ (A : Type 0) (laws : HearingLaws) (setting : Setting) (history : List H
   -- ---- at the node's own socket
 
   module _ (to_it : s.to ≡ at) where
-    abbrev came : Done Step
+    abbrev came : Done EndChange
     came = received wire n.streams s.from s.packet
 
     same_came : received setting.numbers (old.tables s.to) s.from s.packet ≡ came
@@ -91,13 +91,13 @@ module _ (A : Type 0) (laws : HearingLaws) (setting : Setting) (history : List H
         → NamesEnd A setting history n st (named_by r) → streams now ≡ streams old → StepTo r now
     plain now r is names same = plain_step A setting history n st laws.paired (Gets which) r (streams now) is names same
 
-    came_step : (now : Network) (x : Step)
+    came_step : (now : Network) (x : EndChange)
         → ((id : ℕ) → x ≡ step.Opened id → OpensWith (streams old) (streams now) at id) → IsCame n.streams x
         → AfterStep old now at s.from x → StepTo (told_by x) now
     came_step now step.Ignored opens named same = plain now report.Ignored refl tt same
     came_step now (step.Made id) opens named is =
         HasAnswered (record {
-          which = which;
+          datagram = which;
           id = id;
           request = s;
           act = refl;
@@ -106,7 +106,7 @@ module _ (A : Type 0) (laws : HearingLaws) (setting : Setting) (history : List H
           streams = is;
         })
     came_step now (step.Opened id) opens named is =
-        HasOpened (record { which = which; id = id; act = refl; report = refl; opens = opens id refl })
+        HasOpened (record { datagram = which; id = id; act = refl; report = refl; opens = opens id refl })
     came_step now step.Turned opens named same = plain now (report.Streams adsp_report.Turned) refl tt same
     came_step now (step.Denied id) opens named same = plain now (report.Streams (adsp_report.Denied id)) refl named same
     came_step now step.Again opens named same = plain now report.Again refl tt same
@@ -123,7 +123,7 @@ module _ (A : Type 0) (laws : HearingLaws) (setting : Setting) (history : List H
         let now = done setting old (Takes which) in
         let change = subst (AfterSegment setting old now) was_sent
         (laws.changes setting history (Takes which) st.timely) in
-        subst (λ (p : Address × Done Step). AfterStep old now p.0 s.from p.1.answer)
+        subst (λ (p : Address × Done EndChange). AfterStep old now p.0 s.from p.1.answer)
         (λ i. (to_it i, same_came i)) change
 
     in_time : ((id : ℕ) → drawn_by {A = A} (told_by came.answer) ≡ Some (Conn id) → NoneNames old at id)
@@ -134,8 +134,8 @@ module _ (A : Type 0) (laws : HearingLaws) (setting : Setting) (history : List H
           (λ i. st.ours i (to_it i)) ∙ its_own A setting history n st,
           fresh,
           λ id made. subst (λ (a : Address). NoneNames old a id) (sym to_it)
-              (free id (ap (λ (y : Step). drawn_by {A = A} (told_by y))
-              (sym (ap (λ (d : Done Step). d.answer) same_came) ∙ made))),
+              (free id (ap (λ (y : EndChange). drawn_by {A = A} (told_by y))
+              (sym (ap (λ (d : Done EndChange). d.answer) same_came) ∙ made))),
         )
 
     opening : IsTimely setting old (Takes which) → (id : ℕ) → came.answer ≡ step.Opened id
@@ -144,7 +144,7 @@ module _ (A : Type 0) (laws : HearingLaws) (setting : Setting) (history : List H
         subst (λ (a : Address). OpensWith (streams old) (streams (done setting old (Takes which))) a id) to_it
         (laws.opens setting history which id s (timely, st.timely)
         (all_ours n.seat.net setting history st.ours st.here) was_sent
-        (ap (λ (d : Done Step). d.answer) same_came ∙ is))
+        (ap (λ (d : Done EndChange). d.answer) same_came ∙ is))
 
     taking : Good (over (with_streams n) (segment_heard n.seat n.streams s.from s.packet))
     taking free =

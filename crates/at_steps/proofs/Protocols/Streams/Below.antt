@@ -4,7 +4,7 @@ use Rattle.std.specs.List.{AllByRecursion}
 use Rattle.at_ddp.specs.Datagram.{Content as Datagram, AreBytes, BeginsWith, IsAddress, canonical, written}
 use Rattle.at_ddp.specs.declared.address.Address.{Address}
 use Rattle.at_adsp_frame.specs.Segments.{Content, IsLawful, Spells, spelled}
-use Rattle.at_adsp_end.specs.declared.step.Step.TheVariants as step
+use Rattle.at_adsp_end.specs.declared.change.EndChange.TheVariants as step
 use Rattle.at_adsp_ends.specs.Receiving.{received}
 use Rattle.at_adsp.specs.Connections.{ChangesStreams, streams}
 use Rattle.at_adsp.specs.Meetings.{OpensWith}

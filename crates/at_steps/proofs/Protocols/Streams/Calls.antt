@@ -14,7 +14,7 @@ use Rattle.at_adsp_end.specs.Sending.{closing}
 use Rattle.at_adsp_end.specs.declared.fault.StreamFault.{StreamFault}
 use Rattle.at_adsp_end.specs.declared.fault.StreamFault.TheVariants.{EndsFull, NoSuchEnd}
 use Rattle.at_adsp_end.specs.declared.item.Item.{Item}
-use Rattle.at_adsp_end.specs.declared.step.Step.TheVariants as step
+use Rattle.at_adsp_end.specs.declared.change.EndChange.TheVariants as step
 use Rattle.at_adsp_ends.specs.Calls.{closed_at, connected, read_at, reset_at, wrote}
 use Rattle.at_adsp_ends.specs.Tables.{Done, by_id, freed, has_id, moved, next_id}
 use Rattle.at_adsp.specs.Connections.{AfterCall, AfterConnecting, streams}
@@ -25,7 +25,7 @@ use Rattle.at_adsp.specs.Streams.{Deed, Nothing}
 use Rattle.at_adsp.specs.Streams as deeds
 use Rattle.at_nbp.specs.declared.find.Find.{Find as Found}
 use Rattle.at_event.specs.Kinds.{IsCall}
-use Rattle.at_event.specs.Kinds.{kind_of_call}
+use Rattle.at_event.specs.Kinds.{speaker_of_call}
 use Rattle.at_event.specs.Outcomes.{over, refused_as}
 use Rattle.at_event.specs.Seats.{at_socket}
 use Rattle.at_event.specs.declared.Call.{Call}
@@ -265,7 +265,7 @@ module _ (A : Type 0) (changes : AllChange) (paired : AllPaired) (setting : Sett
       (plain_step A setting history n st paired (Calls (Streams (Listen on))) (report.Streams adsp_report.ListenSet)
       (streams (done setting old (Listens at on))) refl tt (changes setting history (Listens at on) st.timely))
 
-  pub call_happens : (call : Call A) → IsCall call → is_adsp (kind_of_call call) ≡ true
+  pub call_happens : (call : Call A) → IsCall call → is_adsp (speaker_of_call call) ≡ true
       → ((id : ℕ) → drawn_by (called n call).report ≡ Some (Conn id) → NoneNames old at id)
       → IsIts A setting history n (Calls call) (called n call)
   call_happens (Streams (Open index)) range its free = opening index (slice_get n.session.finds index) refl free

@@ -25,8 +25,8 @@ use Rattle.at_adsp_end.specs.declared.forward.Forward.TheVariants.{Jump, Older, 
 use Rattle.at_adsp_end.specs.declared.item.Item.{Item}
 use Rattle.at_adsp_end.specs.declared.phase.Phase.TheVariants as phase
 use Rattle.at_adsp_end.specs.declared.remote.Remote.{Remote}
-use Rattle.at_adsp_end.specs.declared.step.Step.{Step}
-use Rattle.at_adsp_end.specs.declared.step.Step.TheVariants as step
+use Rattle.at_adsp_end.specs.declared.change.EndChange.{EndChange}
+use Rattle.at_adsp_end.specs.declared.change.EndChange.TheVariants as step
 use Rattle.at_adsp_ends.specs.Calls.{finds_no_room, read_at, reset_at, wrote, wrote_some}
 use Rattle.at_adsp_ends.specs.Openings.{ack_came, answer_came, answers_again, confirms_again, connected_to, denial_came}
 use Rattle.at_adsp_ends.specs.Openings.{ignored, is_answered, opened, request_came, room_for}
@@ -132,7 +132,7 @@ module _ (t : EndTable) (id : ℕ) where
 
 -- ---- which end the step of a segment names
 
-abbrev pub IsCame : EndTable → Step → Type 0
+abbrev pub IsCame : EndTable → EndChange → Type 0
 IsCame t (step.Opened id) = Finds t id
 IsCame t (step.Denied id) = Finds t id
 IsCame t (step.Heard id items) = Finds t id

@@ -13,8 +13,8 @@ use Rattle.at_adsp_end.specs.Positions.{wire}
 use Rattle.at_adsp_end.specs.declared.fault.StreamFault.{StreamFault}
 use Rattle.at_adsp_end.specs.Sending.{closing as closing_}
 use Rattle.at_adsp_end.specs.declared.fault.StreamFault.TheVariants.{NotOpen}
-use Rattle.at_adsp_end.specs.declared.step.Step.{Step}
-use Rattle.at_adsp_end.specs.declared.step.Step.TheVariants as step
+use Rattle.at_adsp_end.specs.declared.change.EndChange.{EndChange}
+use Rattle.at_adsp_end.specs.declared.change.EndChange.TheVariants as step
 use Rattle.at_adsp_end.specs.declared.tick.Tick.{Tick}
 use Rattle.at_adsp_end.specs.declared.tick.Tick.TheVariants as tick
 use Rattle.at_adsp_ends.specs.Calls.{closed_at, connected, frees, read_at, reset_at, ticked_at, wrote}
@@ -78,32 +78,32 @@ module _ (A : Type 0) (act : Act A) (t : EndTable) where
   called_with s told (Err fault) may = refused (number_of fault)
 
 -- an end is closed or freed
-closing : (A : Type 0) (t : EndTable) (id k : ℕ) (o : Option EndState) (d : Done Step) → closed_at wire t o ≡ Ok d
+closing : (A : Type 0) (t : EndTable) (id k : ℕ) (o : Option EndState) (d : Done EndChange) → closed_at wire t o ≡ Ok d
     → MaySay A Adsp (Calls (Streams (Close k))) (told_by d.answer)
 closing A t id k None d is = absurd (cc)
 closing A t id k (Some e) d is = go (is_open e.phase) is
   where
-    ok_same : (x y : Done Step) → ◌≡◌ {A = Result (Done Step) StreamFault} (Ok x) (Ok y) → x ≡ y
+    ok_same : (x y : Done EndChange) → ◌≡◌ {A = Result (Done EndChange) StreamFault} (Ok x) (Ok y) → x ≡ y
     ok_same x y h = cc
 
-    go : (b : Bool) → ◌≡◌ {A = Result (Done Step) StreamFault}
+    go : (b : Bool) → ◌≡◌ {A = Result (Done EndChange) StreamFault}
         (cond b (Ok (moved t (step.Closed e.id) (closing_ wire e).after (closing_ wire e).sent))
         (Ok (freed t (step.Freed e.id) e))) (Ok d) → MaySay A Adsp (Calls (Streams (Close k))) (told_by d.answer)
-    go true h = subst (λ (x : Done Step). MaySay A Adsp (Calls (Streams (Close k))) (told_by x.answer))
+    go true h = subst (λ (x : Done EndChange). MaySay A Adsp (Calls (Streams (Close k))) (told_by x.answer))
         (ok_same (moved t (step.Closed e.id) (closing_ wire e).after (closing_ wire e).sent) d h) (refl, tt)
-    go false h = subst (λ (x : Done Step). MaySay A Adsp (Calls (Streams (Close k))) (told_by x.answer))
+    go false h = subst (λ (x : Done EndChange). MaySay A Adsp (Calls (Streams (Close k))) (told_by x.answer))
         (ok_same (freed t (step.Freed e.id) e) d h) (refl, tt)
 
 -- the answers of a tick
 module _ (A : Type 0) (t : EndTable) (time : Timer) where
-  ticking_ok : (b : Bool) (x y : Done Step) → MaySay A Adsp (Fires time) (told_by x.answer)
-      → MaySay A Adsp (Fires time) (told_by y.answer) → (d : Done Step)
-      → ◌≡◌ {A = Result (Done Step) StreamFault} (cond b (Ok x) (Ok y)) (Ok d)
+  ticking_ok : (b : Bool) (x y : Done EndChange) → MaySay A Adsp (Fires time) (told_by x.answer)
+      → MaySay A Adsp (Fires time) (told_by y.answer) → (d : Done EndChange)
+      → ◌≡◌ {A = Result (Done EndChange) StreamFault} (cond b (Ok x) (Ok y)) (Ok d)
       → MaySay A Adsp (Fires time) (told_by d.answer)
   ticking_ok true x y mx my d h = let same : x
-      ≡ d = cc in subst (λ (z : Done Step). MaySay A Adsp (Fires time) (told_by z.answer)) same mx
+      ≡ d = cc in subst (λ (z : Done EndChange). MaySay A Adsp (Fires time) (told_by z.answer)) same mx
   ticking_ok false x y mx my d h = let same : y
-      ≡ d = cc in subst (λ (z : Done Step). MaySay A Adsp (Fires time) (told_by z.answer)) same my
+      ≡ d = cc in subst (λ (z : Done EndChange). MaySay A Adsp (Fires time) (told_by z.answer)) same my
 
   idle_or_again : (b : Bool) → MaySay A Adsp (Fires time) (told_by (cond b step.Idle step.Again))
   idle_or_again true = (refl, tt)
@@ -117,12 +117,12 @@ module _ (A : Type 0) (t : EndTable) (time : Timer) where
   ticked_says e tick.Retransmit = idle_or_again (is_idle e)
   ticked_says e tick.Probe = probing e (is_last e tick.Probe)
 
-  ticking : (x : Tick) (o : Option EndState) (d : Done Step) → ticked_at wire t x o ≡ Ok d
+  ticking : (x : Tick) (o : Option EndState) (d : Done EndChange) → ticked_at wire t x o ≡ Ok d
       → MaySay A Adsp (Fires time) (told_by d.answer)
   ticking x None d is = absurd (cc)
   ticking x (Some e) d is = go (is_closed e.phase) is
     where
-      go : (b : Bool) → ◌≡◌ {A = Result (Done Step) StreamFault}
+      go : (b : Bool) → ◌≡◌ {A = Result (Done EndChange) StreamFault}
           (cond b (Err NotOpen) (cond (frees e x) (Ok (freed t (step.Freed e.id) e))
           (Ok (settled t (ticked wire e x))))) (Ok d) → MaySay A Adsp (Fires time) (told_by d.answer)
       go true h = absurd (cc)
@@ -187,7 +187,7 @@ streams_timed A n (adsp_timer.Probe id) =
     record { state = refl; its = ticking_comes A n (timer.Streams (adsp_timer.Probe id)) id tick.Probe }
 
 module _ (A : Type 0) (s : Seat) (t : EndTable) (which : ℕ) where
-  came_says : (x : Step) → MaySay A Adsp (Gets which) (told_by x)
+  came_says : (x : EndChange) → MaySay A Adsp (Gets which) (told_by x)
   came_says step.Ignored = (tt, tt)
   came_says (step.Made id) = (refl, tt)
   came_says (step.Opened id) = (refl, tt)

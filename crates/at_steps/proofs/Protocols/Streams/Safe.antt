@@ -15,8 +15,8 @@ use Rattle.at_adsp_end.specs.Sending.{closing, resetting_now}
 use Rattle.at_adsp_end.specs.declared.fault.StreamFault.{StreamFault}
 use Rattle.at_adsp_end.specs.declared.fault.StreamFault.TheVariants as stream
 use Rattle.at_adsp_end.specs.declared.item.Item.{Item}
-use Rattle.at_adsp_end.specs.declared.step.Step.{Step}
-use Rattle.at_adsp_end.specs.declared.step.Step.TheVariants as step
+use Rattle.at_adsp_end.specs.declared.change.EndChange.{EndChange}
+use Rattle.at_adsp_end.specs.declared.change.EndChange.TheVariants as step
 use Rattle.at_adsp_end.specs.declared.tick.Tick.{Tick}
 use Rattle.at_adsp_end.specs.declared.tick.Tick.TheVariants as tick
 use Rattle.at_adsp_ends.specs.Calls.{closed_at, connected, finds_no_room, frees, read_at, reset_at, ticked_at, wrote}
@@ -43,7 +43,7 @@ use Rattle.at_stream_socket.specs.Calls.{called, close_called, connect_called, l
 use Rattle.at_stream_socket.specs.Calls.{tick_fired, write_called}
 use Rattle.at_stream_socket.specs.Hearing.{HearsAdspFault, HearsSegment, HearsStreams, segment_heard}
 use Rattle.at_stream_socket.specs.Sockets.{answered, sent_of, streams_at, told_by, told_opening, told_read, told_wrote}
-use Rattle.at_steps.specs.Safety.{IsSafe, IsTrueOf, Place, number_told}
+use Rattle.at_steps.specs.Safety.{IsSafe, IsTrueOf, TransactionTable, number_told}
 use Rattle.at_event.specs.declared.Reason.TheVariants.{OfNodes, OfSegments, OfStreams}
 use Rattle.at_steps.proofs.Safety.By.{by, faulted, quiet, refused, sent_few, through}
 
@@ -61,7 +61,8 @@ pub record StreamLaws : Type 0 where
   pub ticked : (t : EndTable) (id : ℕ) (tick : Tick) → AllByRecursion FitsRooms t.ends
       → IfOk (ticked_at wire t tick (by_id t id)) SendsFew
 
-module _ (A : Type 0) (n : NodeState) (Wants : Place → Type 0) (laws : StreamLaws) (within : IsWithin n) where
+module _ (A : Type 0) (n : NodeState) (Wants : TransactionTable
+    → Type 0) (laws : StreamLaws) (within : IsWithin n) where
   abbrev Safe : Outcome A EndTable → Type 0
   Safe o = IsSafe Wants n n.streams o
 
@@ -73,7 +74,7 @@ module _ (A : Type 0) (n : NodeState) (Wants : Place → Type 0) (laws : StreamL
       sent_few (streams_at n.seat.net n.seat.number) adsp_kind (spelled_all sent) 131070
       (omega (arith, few, length-map {B = Address × List ℕ} sent (λ (s : Address × Content). (s.0, spelled s.1))))
 
-  step_quiet : (x : Step) → number_told (told_by {A = A} x) ≡ None
+  step_quiet : (x : EndChange) → number_told (told_by {A = A} x) ≡ None
   step_quiet step.Ignored = refl
   step_quiet (step.Made id) = refl
   step_quiet (step.Opened id) = refl

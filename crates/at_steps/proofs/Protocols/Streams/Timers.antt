@@ -9,8 +9,8 @@ use Rattle.at_adsp_end.specs.Fault.{number_of}
 use Rattle.at_adsp_end.specs.Positions.{wire}
 use Rattle.at_adsp_end.specs.declared.fault.StreamFault.{StreamFault}
 use Rattle.at_adsp_end.specs.declared.fault.StreamFault.TheVariants.{NoSuchEnd, NotOpen}
-use Rattle.at_adsp_end.specs.declared.step.Step.{Step}
-use Rattle.at_adsp_end.specs.declared.step.Step.TheVariants as step
+use Rattle.at_adsp_end.specs.declared.change.EndChange.{EndChange}
+use Rattle.at_adsp_end.specs.declared.change.EndChange.TheVariants as step
 use Rattle.at_adsp_end.specs.declared.tick.Tick.{Tick}
 use Rattle.at_adsp_end.specs.declared.tick.Tick.TheVariants as tick
 use Rattle.at_adsp_ends.specs.Calls.{frees, ticked_at}
@@ -19,7 +19,7 @@ use Rattle.at_adsp_ends.specs.Tables.{Done, by_id, freed, has_id}
 use Rattle.at_adsp.specs.Connections.{streams}
 use Rattle.at_adsp.specs.Network.{Happening, Network, Setting, Ticks, calls, done}
 use Rattle.at_adsp.specs.Streams.{Nothing}
-use Rattle.at_event.specs.Kinds.{kind_of_timer}
+use Rattle.at_event.specs.Kinds.{speaker_of_timer}
 use Rattle.at_event.specs.Outcomes.{over}
 use Rattle.at_event.specs.declared.Report.{Report}
 use Rattle.at_event.specs.declared.Report.TheVariants as report
@@ -50,7 +50,7 @@ module _ (A : Type 0) (changes : AllChange) (paired : AllPaired) (setting : Sett
   abbrev StepTo : Timer → Report A → Network → Type 0
   StepTo time r now = IsStep (changed A setting history n st (Fires time) r (streams now))
 
-  abbrev told : Result (Done Step) StreamFault → Report A
+  abbrev told : Result (Done EndChange) StreamFault → Report A
   told r = (sockets.called {A = A} n.seat n.streams told_by r).report
 
   refusing : (time : Timer) (fault : StreamFault) (now : Network) → streams now ≡ streams old
@@ -110,10 +110,11 @@ module _ (A : Type 0) (changes : AllChange) (paired : AllPaired) (setting : Sett
       let c = sockets.called {A = A} n.seat n.streams told_by r in
       happens A setting history n st (Fires time) c (Ticks at id x) tt (fits A setting history n st)
       (its_own A setting history n st) (is_of c.report)
-      (subst (λ (d : Result (Done Step) StreamFault). Becomes old (calls setting old at d) at c.state c.out) (sym same)
+      (subst (λ (d : Result (Done EndChange) StreamFault). Becomes old (calls setting old at d) at c.state c.out)
+      (sym same)
       (becomes_called {A = A} setting old n.seat n.streams (λ answer. Nothing) told_by r st.stands)) step
 
-  pub timer_happens : (time : Timer) → is_adsp (kind_of_timer time) ≡ true
+  pub timer_happens : (time : Timer) → is_adsp (speaker_of_timer time) ≡ true
       → IsIts A setting history n (Fires time) (timed n time)
   timer_happens (timer.Streams (adsp_timer.Resend id)) its =
       ticking (timer.Streams (adsp_timer.Resend id)) id tick.Retransmit (λ r. inl refl)

@@ -2,7 +2,7 @@ use Rattle.std.proofs.Common.{◌≡◌, ◌++◌, map, None, List, sym, ap, ◌
 use Rattle.std.specs.Prelude.{find}
 use Rattle.std.proofs.lemmas.List.{append-nil}
 use Rattle.at_atp_frame.specs.Frames.{content, spelled_all}
-use Rattle.at_atp_responder.specs.Records.{Record, is_key, finds_no_place, record_fault, taken}
+use Rattle.at_atp_responder.specs.Records.{Record, is_key, finds_no_place, record_fault, received}
 use Rattle.at_atp_responder.specs.declared.reception.Reception.TheVariants.{Ignored, New}
 use Rattle.at_ddp.specs.Tables.{without_first}
 use Rattle.at_ddp.specs.Protocols.{atp_kind}
@@ -20,7 +20,8 @@ hand_up-requires g c =
     record {
       waits = ap (λ (rs : List Record). record_fault (find (is_key c.in-Ok-New.key) rs))
           c.in-Ok-New.ensures.state
-          ∙ waits c.args.records.now (taken c.args.records.now c.args.packet.now.from (content c.args.packet.now.frame))
+          ∙ waits c.args.records.now (received c.args.records.now c.args.packet.now.from
+          (content c.args.packet.now.frame))
           c.in-Ok-New.key new;
     }
 
@@ -32,7 +33,7 @@ returns-in-Err-hand_up g c =
     let still : record_fault (find (is_key c.in-Ok-New.key) c.hand_up.new.records)
     ≡ None = ap (λ (rs : List Record). record_fault (find (is_key c.in-Ok-New.key) rs))
     (c.in-Err-hand_up.ensures.unchanged ∙ c.in-Ok-New.ensures.state)
-    ∙ waits c.args.records.now (taken c.args.records.now c.args.packet.now.from (content c.args.packet.now.frame))
+    ∙ waits c.args.records.now (received c.args.records.now c.args.packet.now.from (content c.args.packet.now.frame))
     c.in-Ok-New.key new in
     let gone = when_ok c.undo.result _ c.undo.ensures.ok (c.undo.ensures.succeeds still) in
     let quiet : c.hear.new.out.items ≡ c.args.out.now.items =
@@ -45,7 +46,7 @@ returns-in-Err-hand_up g c =
           gone ∙ ap (without_first (is_key c.in-Ok-New.key))
           (c.in-Err-hand_up.ensures.unchanged ∙ c.in-Ok-New.ensures.state)
           ∙ undone c.args.records.now
-          (taken c.args.records.now c.args.packet.now.from (content c.args.packet.now.frame)) c.in-Ok-New.key new
+          (received c.args.records.now c.args.packet.now.from (content c.args.packet.now.frame)) c.in-Ok-New.key new
           ∙ sym same in (
             (λ i. record a { service_responder = back i }),
             c.in-Err-hand_up.ensures.nothing_sent
@@ -56,7 +57,7 @@ returns-in-Err-hand_up g c =
                 (ap (λ (rs : List Record). finds_no_place rs c.args.packet.now.from (content c.args.packet.now.frame))
                 (sym same) ∙ full))))
                 (λ is. let both : New c.in-Ok-New.key ≡ Ignored = sym taken_new
-                ∙ ap (λ (rs : List Record). (taken rs c.args.packet.now.from
+                ∙ ap (λ (rs : List Record). (received rs c.args.packet.now.from
                 (content c.args.packet.now.frame)).reception) (sym same) ∙ is in absurd (cc)),
           )),
       c.in-Err-hand_up.ensures.not_asked,

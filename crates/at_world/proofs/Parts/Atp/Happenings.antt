@@ -9,7 +9,7 @@ use Rattle.at_zone_socket.specs.ZoneSockets.{zones_at}
 use Rattle.at_event.specs.Kinds.{IsCall}
 use Rattle.at_node.specs.Numbers.{IsTold, drawn_by, holds}
 use Rattle.at_node.specs.Hearing.{Hears}
-use Rattle.at_event.specs.Kinds.{Kind, Atp, kind_of_call, kind_of_timer, reporter_of}
+use Rattle.at_event.specs.Kinds.{Speaker, Atp, speaker_of_call, speaker_of_timer, reporter_of}
 use Rattle.at_node.specs.Nodes.{NodeState, called, timed}
 use Rattle.at_event.specs.Outcomes.{Outcome}
 use Rattle.at_event.specs.Services.{is_asked}
@@ -39,7 +39,7 @@ use Rattle.at_world.proofs.Parts.Atp.Tie.{Laws, AtpTie, Good, IsReading, good_ne
 use Rattle.at_world.proofs.Parts.Atp.Times.{none_holds}
 
 -- at a report of another protocol a moment passes
-moment_passes : (A : Type 0) (c : Cable) (m : AtpMachine) (e : Event A) (r : Report A) (k : Kind) → is_atp k ≡ false
+moment_passes : (A : Type 0) (c : Cable) (m : AtpMachine) (e : Event A) (r : Report A) (k : Speaker) → is_atp k ≡ false
     → StepBy c m e r (next m) k
 moment_passes A c m e r Atp h = absurd (cc)
 moment_passes A c m e r other h = refl
@@ -138,9 +138,9 @@ module _ (A : Type 0) (laws : Laws A) (w : WorldState) (c : Cable) (m : AtpMachi
   pub call_follows : (call : Call A) → IsCall call
       → AreFree w.nodes k (λ y draw. drawn_by (called y call).report ≡ Some draw)
       → (called n call).state.seat ≡ n.seat → Follows A w c m ct t (event.Call k call) (called n call)
-  call_follows call range free seat = go (is_atp (kind_of_call call)) refl
+  call_follows call range free seat = go (is_atp (speaker_of_call call)) refl
     where
-      go : (b : Bool) → is_atp (kind_of_call call) ≡ b → Follows A w c m ct t (event.Call k call) (called n call)
+      go : (b : Bool) → is_atp (speaker_of_call call) ≡ b → Follows A w c m ct t (event.Call k call) (called n call)
       go true own = happened A laws w c m ct t (event.Call k call) n stands (called n call) seat
           (laws.called t.history n call (stands_there A laws w c m ct t (event.Call k call) n stands) range own
           (λ tid is. draws_free A laws w c m ct t (event.Call k call) n stands tid (free n stands (Tid tid) is)))
@@ -149,9 +149,9 @@ module _ (A : Type 0) (laws : Laws A) (w : WorldState) (c : Cable) (m : AtpMachi
 
   pub timer_follows : (time : Timer) → (timed {A = A} n time).state.seat ≡ n.seat
       → Follows A w c m ct t (event.Timer k time) (timed n time)
-  timer_follows time seat = go (is_atp (kind_of_timer time)) refl
+  timer_follows time seat = go (is_atp (speaker_of_timer time)) refl
     where
-      go : (b : Bool) → is_atp (kind_of_timer time) ≡ b → Follows A w c m ct t (event.Timer k time) (timed n time)
+      go : (b : Bool) → is_atp (speaker_of_timer time) ≡ b → Follows A w c m ct t (event.Timer k time) (timed n time)
       go true own = happened A laws w c m ct t (event.Timer k time) n stands (timed n time) seat
           (laws.timed t.history n time (stands_there A laws w c m ct t (event.Timer k time) n stands) own)
       go false other = passed A laws w c m ct t (event.Timer k time) n stands (timed n time) seat

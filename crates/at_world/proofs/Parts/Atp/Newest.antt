@@ -145,7 +145,7 @@ as_asked A net tables n h e r key m drawn b = go b.begins
         (λ x. BeginsAs x (act_of e)) is m.begins_as in
         (sym begun.0, sym begun.1)
     go (AfterOne f) =
-        let turned : BeginsAs (Turns f.which (b.transaction).user b.retries) (act_of e) =
+        let turned : BeginsAs (Turns f.datagram (b.transaction).user b.retries) (act_of e) =
         subst (λ x. BeginsAs x (act_of e)) f.turns m.begins_as in
         (f.not_xo ∙ sym turned.0, f.one_wanted ∙ sym turned.1)
 

@@ -10,7 +10,7 @@ use Rattle.at_ddp.specs.declared.address.Address.{Address}
 use Rattle.at_atp_frame.specs.Packets.{Packet}
 use Rattle.at_atp.specs.Transactions as atp
 use Rattle.at_zip.specs.Reading.{place_after}
-use Rattle.at_zip.specs.declared.request.Which.{Which}
+use Rattle.at_zip.specs.declared.request.TableChoice.{TableChoice}
 use Rattle.at_world.specs.Agreements.{on_wire}
 use Rattle.at_world.specs.Transactions.{Asks, ForPage, ForService, Transaction, is_transaction, transaction_of, Asked}
 use Rattle.at_world.specs.Transactions.{answered, EndsAs, IsResponse}
@@ -136,7 +136,7 @@ answered_ask_well (x ∷ ts) from tid packets all =
     go ih false = (all.0, ih)
 
 -- a page after so many names is asked for well
-pub page_fits : (which : Which) (names : List (List ℕ)) (to : Address) → length names ≤ 1024 → to.socket ≡ 6
+pub page_fits : (which : TableChoice) (names : List (List ℕ)) (to : Address) → length names ≤ 1024 → to.socket ≡ 6
     → AsksWell (ForPage which (place_after names)) to
 page_fits which names to few is = let lt : 1025 < 2 ^ 16 = lit< tt in (omega arith, omega (arith, few, lt), is)
 

@@ -7,7 +7,7 @@ use Rattle.std.proofs.lemmas.List.Sums.{sum_by-cons}
 use Rattle.at_ddp.specs.declared.address.Address.{Address}
 use Rattle.at_atp_requester.specs.Requests.{no_requests}
 use Rattle.at_zip.specs.Tables.{Tables, AreTables}
-use Rattle.at_zip.specs.declared.request.Which.TheVariants.{All, Local}
+use Rattle.at_zip.specs.declared.request.TableChoice.TheVariants.{All, Local}
 use Rattle.at_zone_socket.specs.ZoneSockets.{Reading}
 use Rattle.at_node.specs.Nodes.{NodeState, opening}
 use Rattle.at_setup.specs.declared.setup.NodeSetup.{NodeSetup}

@@ -8,7 +8,7 @@ use Rattle.at_atp.specs.Transactions as atp
 use Rattle.std.proofs.lemmas.List.{length-append}
 use Rattle.at_zip.specs.Reading.{BeginsTable}
 use Rattle.at_zip.specs.Tables.{table_of}
-use Rattle.at_zip.specs.declared.request.Which.{Which}
+use Rattle.at_zip.specs.declared.request.TableChoice.{TableChoice}
 use Rattle.at_zone_socket.specs.ZoneSockets.{Reading as ZoneReading, zones_at}
 use Rattle.at_transaction_socket.specs.TransactionSockets.{asking}
 use Rattle.at_node.specs.Nodes.{NodeState}
@@ -102,9 +102,10 @@ module _ (A : Type 0) (laws : Laws A) (w : WorldState) (cable : Cable) (m : AtpM
       go (All h) =
           no_longer ts s.asked s.reading (ap sets_table h.tells)
           (so_at A cable m (moved m m.tables m.asked (without_reading m.readings (node_of e))) e
-          (event.Deliver came.which (node_of e)) r (report.Zones (zip_report.List (came.read).which ((came.read).names
+          (event.Deliver came.datagram (node_of e)) r (report.Zones (zip_report.List (came.read).which
+          ((came.read).names
           ++ (h.page).names)))
-          (delivered_at e came.which came.act) h.tells (
+          (delivered_at e came.datagram came.act) h.tells (
             tt,
             record {
               since = its.since;
@@ -129,7 +130,7 @@ module _ (A : Type 0) (laws : Laws A) (w : WorldState) (cable : Cable) (m : AtpM
   -- ---- readings that begin and go on
 
   -- the node asks the router for the page after these names
-  asks_page : (server : ℕ) (kind : Which) (tid : ℕ) (names : List (List ℕ)) (readings : List Reading) (since : ℕ)
+  asks_page : (server : ℕ) (kind : TableChoice) (tid : ℕ) (names : List (List ℕ)) (readings : List Reading) (since : ℕ)
       → cable.router ≡ Some server → length names ≤ 1024 → ReadsSince readings (node_of e) kind since
       → since ≤ length m.past →
       ((table : List (List ℕ)) → HasStood (m.past ++ m.tables ∷ []) since kind table → BeginsTable table names)
@@ -235,7 +236,7 @@ module _ (A : Type 0) (laws : Laws A) (w : WorldState) (cable : Cable) (m : AtpM
       its : Reads cable.net cable.router m.past m.asked m.readings (node_of e) came.read
       its = reads came.read came.reads
 
-      kind : Which
+      kind : TableChoice
       kind = (came.read).which
 
       names : List (List ℕ)
@@ -257,8 +258,9 @@ module _ (A : Type 0) (laws : Laws A) (w : WorldState) (cable : Cable) (m : AtpM
       new = page_asked cable.net (node_of e) (zones_at cable.net its.server) kind names s.tid
 
       allows : Allows cable m e r (moved m m.tables (new ∷ m.asked) m.readings)
-      allows = so_at A cable m (moved m m.tables (new ∷ m.asked) m.readings) e (event.Deliver came.which (node_of e)) r
-          (report.Transactions (atp_report.Begun s.tid)) (delivered_at e came.which came.act) s.report (
+      allows = so_at A cable m (moved m m.tables (new ∷ m.asked) m.readings) e (event.Deliver came.datagram
+          (node_of e)) r
+          (report.Transactions (atp_report.Begun s.tid)) (delivered_at e came.datagram came.act) s.report (
             tt,
             record {
               router = its.server;

@@ -16,7 +16,7 @@ use Rattle.at_zip.specs.Reading.{BeginsTable, place_after}
 use Rattle.at_zip.specs.Request.{RequestSpells, request_user}
 use Rattle.at_zip.specs.Tables.{Tables, AreTables, table_of, with_table}
 use Rattle.at_zip.specs.Zones.{IsTable}
-use Rattle.at_zip.specs.declared.request.Which.{Which}
+use Rattle.at_zip.specs.declared.request.TableChoice.{TableChoice}
 use Rattle.at_zip.specs.declared.fault.ZipFault.{ZipFault}
 use Rattle.at_zone_socket.specs.ZoneSockets.{Reading as ZoneReading, zones_at}
 use Rattle.at_transaction_socket.specs.TransactionSockets.{asking}
@@ -31,13 +31,13 @@ use Rattle.at_world.proofs.Parts.Atp.OnWire.{AsksWell, wired, asked_unwired}
 
 -- what the layers below promise of pages
 pub record ReadingLaws : Type 0 where
-  pub asks : (which : Which) (start : ℕ) → 1 ≤ start → start < 2 ^ 16
+  pub asks : (which : TableChoice) (start : ℕ) → 1 ≤ start → start < 2 ^ 16
       → RequestSpells (request_user which start) which start
   pub written : (p : Page) (rest : List ℕ) → IsLawfulPage p → Spells (page_user p) (page_data p ++ rest) p
   pub lawful : (table : List (List ℕ)) (start : ℕ) → IsTable table → IsLawfulPage (page_of table start)
-  pub one_request : (user : List ℕ) (v w : Which) (m k : ℕ) → RequestSpells user v m → RequestSpells user w k
+  pub one_request : (user : List ℕ) (v w : TableChoice) (m k : ℕ) → RequestSpells user v m → RequestSpells user w k
       → (v ≡ w) × (m ≡ k)
-  pub sets : (which : Which) (names : List (List ℕ)) (tables : Tables) → IsTable names → AreTables tables
+  pub sets : (which : TableChoice) (names : List (List ℕ)) (tables : Tables) → IsTable names → AreTables tables
       → AreTables (with_table which names tables)
   pub one_page : (user bytes : List ℕ) (p q : Page) → Spells user bytes p → Spells user bytes q → p ≡ q
   pub faultless : (user bytes : List ℕ) (p : Page) → Spells user bytes p → (fault : ZipFault)
@@ -49,7 +49,7 @@ pub record ReadingLaws : Type 0 where
       → read ++ (page_of table (place_after read)).names ≡ table
 
 -- a transaction may ask for the page that it asks for on the wire
-pub may_ask : (laws : ReadingLaws) (asks : Asks) (to : Address) → AsksWell asks to → (which : Which) (start : ℕ)
+pub may_ask : (laws : ReadingLaws) (asks : Asks) (to : Address) → AsksWell asks to → (which : TableChoice) (start : ℕ)
     → RequestSpells (on_wire asks).user which start → MayAskFor asks which start
 may_ask laws (ForPage kind from) to well which start spells =
     laws.one_request (request_user kind from) kind which from start (laws.asks kind from well.0 well.1) spells
@@ -62,17 +62,17 @@ abbrev pub tables_at : List Tables → ℕ → Tables
 tables_at past moment = get_or past moment (record { all = []; local = [] })
 
 -- the table of this kind was this one at every moment from that one on
-abbrev pub HasStood : List Tables → ℕ → Which → List (List ℕ) → Type 0
+abbrev pub HasStood : List Tables → ℕ → TableChoice → List (List ℕ) → Type 0
 HasStood past since which table =
     (moment : ℕ) → since ≤ moment → moment < length past → table_of which (tables_at past moment) ≡ table
 
-pub has_stood : (past : List Tables) (since : ℕ) (which : Which) (table : List (List ℕ))
+pub has_stood : (past : List Tables) (since : ℕ) (which : TableChoice) (table : List (List ℕ))
     → StoodSince past since which table → HasStood past since which table
 has_stood past since which table stood moment late within = stood moment (tables_at past moment) late
     (slice_get-get_or past moment (record { all = []; local = [] }) within)
 
 -- an answer is the page after these names of this table at some moment since then
-pub record PageAt (past : List Tables) (since : ℕ) (which : Which) (names : List (List ℕ)) (answer : List Packet)
+pub record PageAt (past : List Tables) (since : ℕ) (which : TableChoice) (names : List (List ℕ)) (answer : List Packet)
     : Type 0 where
   pub moment : ℕ
   pub late : since ≤ moment
@@ -102,7 +102,7 @@ pub record Stays (tables : Tables) (before after : Transaction) : Type 0 where
   pub asks : after.asks ≡ before.asks
   pub xo : after.xo ≡ before.xo
   pub answers : (answer : List Packet) → Contains after.answers answer → Contains before.answers answer
-      ⊎ ((which : Which) × (start : ℕ) × MayAskFor before.asks which start
+      ⊎ ((which : TableChoice) × (start : ℕ) × MayAskFor before.asks which start
       × (answer ≡ page_answer (table_of which tables) start))
 
 -- the newest transaction of a number that asked a router stays so
@@ -114,7 +114,7 @@ StaysAsked tables before after who tid at = (a : Asked before who tid at) → (b
 -- an answer joins its transaction: it is a page of one of the tables, if that transaction asked this address
 pub joined_stays : (tables : Tables) (ts : List Transaction) (from : Address) (tid : ℕ) (packets : List Packet)
     (who : Address) (k : ℕ) (at : Address) →
-    ((u : Transaction) → transaction_of ts from tid ≡ Some u → u.responder ≡ at → (which : Which)
+    ((u : Transaction) → transaction_of ts from tid ≡ Some u → u.responder ≡ at → (which : TableChoice)
     × (start : ℕ) × MayAskFor u.asks which start × (packets ≡ page_answer (table_of which tables) start))
     → StaysAsked tables ts (answered ts from tid packets) who k at
 joined_stays tables ts from tid packets who k at page a = let more =
@@ -144,7 +144,7 @@ joined_stays tables ts from tid packets who k at page a = let more =
       where
         new : (answer : List Packet) → Contains (a.transaction).answers answer ⊎ Contains (packets ∷ []) answer
             → Contains (a.transaction).answers answer
-            ⊎ ((which : Which) × (start : ℕ) × MayAskFor (a.transaction).asks which start
+            ⊎ ((which : TableChoice) × (start : ℕ) × MayAskFor (a.transaction).asks which start
             × (answer ≡ page_answer (table_of which tables) start))
         new answer (inl old) = inl old
         new answer (inr one) =
@@ -183,13 +183,13 @@ pub longer : (past : List Tables) (x : Tables) → length (past ++ x ∷ []) ≡
 longer past x = length-append past (x ∷ [])
 
 -- a table that stood until now stood until the moment before
-pub stood_before : (past : List Tables) (x : Tables) (since : ℕ) (which : Which) (table : List (List ℕ))
+pub stood_before : (past : List Tables) (x : Tables) (since : ℕ) (which : TableChoice) (table : List (List ℕ))
     → HasStood (past ++ x ∷ []) since which table → HasStood past since which table
 stood_before past x since which table stood moment late within =
     ap (table_of which) (sym (at_later past x moment within))
     ∙ stood moment late (omega (arith, within, longer past x))
 
-later_page : (past : List Tables) (x : Tables) (since : ℕ) (which : Which) (names : List (List ℕ))
+later_page : (past : List Tables) (x : Tables) (since : ℕ) (which : TableChoice) (names : List (List ℕ))
     (answer : List Packet) → PageAt past since which names answer → PageAt (past ++ x ∷ []) since which names answer
 later_page past x since which names answer p = record {
   moment = p.moment;
@@ -201,7 +201,7 @@ later_page past x since which names answer p = record {
 }
 
 -- the page of a table of this moment
-page_now : (past : List Tables) (x : Tables) (since : ℕ) (which : Which) (names : List (List ℕ))
+page_now : (past : List Tables) (x : Tables) (since : ℕ) (which : TableChoice) (names : List (List ℕ))
     (answer : List Packet) → since < length past → IsTable (table_of which x)
     → answer ≡ page_answer (table_of which x) (place_after names) → PageAt (past ++ x ∷ []) since which names answer
 page_now past x since which names answer lt table is = record {
@@ -235,7 +235,7 @@ still_reads net router past tables asked asked' readings readings' k read are r 
 }
   where
     page : (answer : List Packet) → Contains ((r.first).transaction).answers answer
-        ⊎ ((which : Which) × (start : ℕ) × MayAskFor ((r.first).transaction).asks which start
+        ⊎ ((which : TableChoice) × (start : ℕ) × MayAskFor ((r.first).transaction).asks which start
         × (answer ≡ page_answer (table_of which tables) start))
         → PageAt (past ++ tables ∷ []) r.since read.which read.names answer
     page answer (inl old) = later_page past tables r.since read.which read.names answer (r.pages answer old)

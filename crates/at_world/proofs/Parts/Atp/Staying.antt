@@ -29,7 +29,7 @@ use Rattle.at_setup.specs.declared.event.Event.TheVariants as event
 use Rattle.at_world.proofs.CableTie.{Wire}
 use Rattle.at_world.proofs.Parts.Atp.OnWire.{AskWell, wired}
 use Rattle.at_world.proofs.Parts.Atp.Readings.{StaysAsked, all_stays, drawn_stays, still_reads}
-use Rattle.at_world.proofs.Parts.Atp.Tie.{Laws, Becomes, Spelled, Stepped, HasTables, IsReading, AtpTie, moved}
+use Rattle.at_world.proofs.Parts.Atp.Tie.{Laws, Spelled, Stepped, HasTables, IsReading, AtpTie, moved}
 
 -- the machine says this of an event, as a report that there is, and what it serves is spelled
 abbrev pub Allows : {A : Type 0} → Cable → AtpMachine → Event A → Report A → AtpMachine → Type 0

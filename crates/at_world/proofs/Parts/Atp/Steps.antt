@@ -7,7 +7,7 @@ use Rattle.at_ddp.proofs.Octets.{same_address_itself}
 use Rattle.at_atp.specs.Transactions as atp
 use Rattle.at_zip.specs.Request.{RequestSpells}
 use Rattle.at_zip.specs.Tables.{Tables, AreTables, table_of, with_table}
-use Rattle.at_zip.specs.declared.request.Which.{Which}
+use Rattle.at_zip.specs.declared.request.TableChoice.{TableChoice}
 use Rattle.at_zone_socket.specs.AtpParts.{AtpState}
 use Rattle.at_transaction_socket.specs.TransactionSockets.{asking, serving}
 use Rattle.at_zone_socket.specs.ZoneSockets.{zones_at}
@@ -68,9 +68,9 @@ module _ (A : Type 0) (laws : Laws A) (w : WorldState) (cable : Cable) (m : AtpM
       × Stepped A cable m e x r ts
   delivers_step ts s = nothing_asked A laws w cable m wires e n x r t stands keeps ts s.asked s.reading
       (ap sets_table s.report)
-      (so_at A cable m (next m) e (event.Deliver s.which (node_of e)) r
+      (so_at A cable m (next m) e (event.Deliver s.datagram (node_of e)) r
       (report.Transactions (atp_report.Asked s.key s.user s.bytes))
-      (delivered_at e s.which s.act) s.report
+      (delivered_at e s.datagram s.act) s.report
       (tt, (record { asked = mine.0; asks = asks }, refl), tt))
     where
       mine : (b : Asked m.asked (s.key).from (s.key).tid (serving cable.net (node_of e)))
@@ -90,9 +90,9 @@ module _ (A : Type 0) (laws : Laws A) (w : WorldState) (cable : Cable) (m : AtpM
       × Stepped A cable m e x r ts
   ends_step ts s = nothing_asked A laws w cable m wires e n x r t stands keeps ts s.asked s.reading
       (ap sets_table s.report)
-      (so_at A cable m (next m) e (event.Deliver s.which (node_of e)) r
+      (so_at A cable m (next m) e (event.Deliver s.datagram (node_of e)) r
       (report.Transactions (atp_report.Response s.tid s.packets))
-      (delivered_at e s.which s.act) s.report
+      (delivered_at e s.datagram s.act) s.report
       (tt, (record { transaction = mine.0; newest = mine.1; response = response }, refl), tt))
     where
       mine : (u : Transaction) × (transaction_of m.asked (asking cable.net (node_of e)) s.tid ≡ Some u)
@@ -181,7 +181,7 @@ module _ (A : Type 0) (laws : Laws A) (w : WorldState) (cable : Cable) (m : AtpM
 
       -- what asked the service did not ask a router for its zones
       elsewhere : (server : ℕ) (u : Transaction) → transaction_of m.asked s.key.from s.key.tid ≡ Some u → u.responder
-          ≡ zones_at cable.net server → (which : Which) × (start : ℕ) × MayAskFor u.asks which start
+          ≡ zones_at cable.net server → (which : TableChoice) × (start : ℕ) × MayAskFor u.asks which start
           × (s.packets ≡ page_answer (table_of which m.tables) start)
       elsewhere server u is here =
           let one = some_transaction (mine.0).transaction u (sym (mine.0).newest ∙ is) in
@@ -203,7 +203,8 @@ module _ (A : Type 0) (laws : Laws A) (w : WorldState) (cable : Cable) (m : AtpM
       (λ j tid server apart. joined_stays m.tables m.asked s.requester s.tid (page_answer table s.start)
       (asking cable.net j) tid (zones_at cable.net server) (page server))
       (so_at A cable m (moved m m.tables (answered m.asked s.requester s.tid (page_answer table s.start)) m.readings)
-      e (event.Deliver s.which (node_of e)) r (report.Zones (zip_report.Served s.count)) (delivered_at e s.which s.act)
+      e (event.Deliver s.datagram (node_of e)) r (report.Zones (zip_report.Served s.count))
+      (delivered_at e s.datagram s.act)
       s.report (
         tt,
         record {
@@ -244,7 +245,7 @@ module _ (A : Type 0) (laws : Laws A) (w : WorldState) (cable : Cable) (m : AtpM
           (newest_asks_well m.asked s.requester s.tid u t.ask_well (mine.0).newest) s.table s.start spells
 
       page : (server : ℕ) (u : Transaction) → transaction_of m.asked s.requester s.tid ≡ Some u → u.responder
-          ≡ zones_at cable.net server → (which : Which) × (start : ℕ) × MayAskFor u.asks which start
+          ≡ zones_at cable.net server → (which : TableChoice) × (start : ℕ) × MayAskFor u.asks which start
           × (page_answer table s.start ≡ page_answer (table_of which m.tables) start)
       page server u is here =
           let one = some_transaction (mine.0).transaction u (sym (mine.0).newest ∙ is) in

@@ -1,6 +1,6 @@
 -- The machine's zone tables after a step are those that the event and its report say.
 use Rattle.std.proofs.Common.{◌≡◌, refl, ap}
-use Rattle.at_event.specs.Kinds.{Kind, Atp, reporter_of}
+use Rattle.at_event.specs.Kinds.{Speaker, Atp, reporter_of}
 use Rattle.at_event.specs.declared.Call.TheVariants.{Transactions, Zones}
 use Rattle.at_event.specs.declared.transactions.TransactionCall.TheVariants.{Ask, Answer}
 use Rattle.at_event.specs.declared.zones.ZoneCall.TheVariants as zone
@@ -54,6 +54,6 @@ moment_tables m (event.Call node (Zones (zone.Set which names))) (report.Zones z
 moment_tables m e r m' same other = same
 
 pub tables_follow : {A : Type 0} (c : Cable) (m : AtpMachine) (e : Event A) (r : Report A) (m' : AtpMachine)
-    (owner : Kind) → reporter_of r ≡ owner → StepBy c m e r m' owner → AreTablesBy m e r m'
+    (owner : Speaker) → reporter_of r ≡ owner → StepBy c m e r m' owner → AreTablesBy m e r m'
 tables_follow c m e r m' Atp its h = says_tables c m e r m' h
 tables_follow c m e r m' other its h = moment_tables m e r m' (kept_of h) (λ is. cc)

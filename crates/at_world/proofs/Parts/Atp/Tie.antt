@@ -20,7 +20,7 @@ use Rattle.at_node.specs.Numbers.{Carries, drawn_by, holds}
 use Rattle.at_zone_socket.specs.ZoneSockets.{Reading as ZoneReading, zones_at}
 use Rattle.at_transaction_socket.specs.TransactionSockets.{asking, serving}
 use Rattle.at_node.specs.Hearing.{Hears}
-use Rattle.at_event.specs.Kinds.{kind_of_call, kind_of_timer, reporter_of}
+use Rattle.at_event.specs.Kinds.{speaker_of_call, speaker_of_timer, reporter_of}
 use Rattle.at_node.specs.Nodes.{NodeState, called, timed}
 use Rattle.at_event.specs.Outcomes.{Outcome, posted}
 use Rattle.at_event.specs.Services.{is_asked}
@@ -57,20 +57,20 @@ use Rattle.at_world.proofs.Parts.Atp.Times.{IsNoted, all_noted, drawn_too}
 
 -- what the layers below promise
 pub record Laws (A : Type 0) : Type 0 where
-  pub foreign_call : (n : NodeState) (call : Call A) → is_atp (kind_of_call call) ≡ false
+  pub foreign_call : (n : NodeState) (call : Call A) → is_atp (speaker_of_call call) ≡ false
       → IsForeign n (Calls call) (called n call)
-  pub foreign_timer : (n : NodeState) (time : Timer) → is_atp (kind_of_timer time) ≡ false
+  pub foreign_timer : (n : NodeState) (time : Timer) → is_atp (speaker_of_timer time) ≡ false
       → IsForeign {A = A} n (Fires time) (timed n time)
   pub foreign_datagram : (n : NodeState) (which : ℕ) (to from : Address) (kind : ℕ) (bytes : List ℕ) (said : Reply A)
       (o : Outcome A NodeState) → (kind == atp_kind) ≡ false → Hears said n (canonical to from kind bytes) o
       → IsForeign n (Gets which) o
   pub called : (history : List Happening) (n : NodeState) (call : Call A) → Stands A history n.seat.net n.seat.number n
-      → IsCall call → is_atp (kind_of_call call) ≡ true
+      → IsCall call → is_atp (speaker_of_call call) ≡ true
       → ((tid : ℕ) → drawn_by (called n call).report ≡ Some (Tid tid)
       → NoneHolds (after A history).responders (asking n.seat.net n.seat.number) tid)
       → IsHappening A history n.seat.net n.seat.number n (Calls call) (called n call)
   pub timed : (history : List Happening) (n : NodeState) (time : Timer) → Stands A history n.seat.net n.seat.number n
-      → is_atp (kind_of_timer time) ≡ true
+      → is_atp (speaker_of_timer time) ≡ true
       → IsHappening A history n.seat.net n.seat.number n (Fires time) (timed n time)
   pub heard : (history : List Happening) (n : NodeState) (which : ℕ) (s : Sent) (said : Reply A)
       (o : Outcome A NodeState) → Stands A history n.seat.net n.seat.number n → packet_at (after A history).sent which

@@ -5,7 +5,7 @@ use Rattle.at_name_socket.specs.Sockets.{Stays, open_at}
 use Rattle.at_event.specs.Kinds.{IsCall}
 use Rattle.at_node.specs.Numbers.{drawn_by}
 use Rattle.at_node.specs.Hearing.{Hears}
-use Rattle.at_event.specs.Kinds.{Kind, Nbp, kind_of_call, kind_of_timer, reporter_of}
+use Rattle.at_event.specs.Kinds.{Speaker, Nbp, speaker_of_call, speaker_of_timer, reporter_of}
 use Rattle.at_node.specs.Nodes.{NodeState, called, timed}
 use Rattle.at_event.specs.Outcomes.{Outcome}
 use Rattle.at_event.specs.declared.Call.{Call}
@@ -33,7 +33,7 @@ use Rattle.at_world.proofs.Parts.Names.Tie.{NameLaws, NameTie}
 use Rattle.at_world.proofs.Parts.Sessions.Tie.{HasSession, SessionTie}
 
 -- at a report of another protocol a moment passes
-moment_passes : (A : Type 0) (ss : Sessions) (m : NameMachine) (e : Event A) (r : Report A) (k : Kind) → is_nbp k
+moment_passes : (A : Type 0) (ss : Sessions) (m : NameMachine) (e : Event A) (r : Report A) (k : Speaker) → is_nbp k
     ≡ false → StepBy ss m e r (next m) k
 moment_passes A ss m e r Nbp h = absurd (cc)
 moment_passes A ss m e r other h = refl
@@ -115,9 +115,9 @@ module _ (A : Type 0) (laws : NameLaws A) (w : WorldState) (c : Cable) (ss : Ses
     (stands : node_at w k ≡ Some n) where
   pub call_follows : (call : Call A) → IsCall call → (called n call).state.seat ≡ n.seat
       → Good A w c ss m ct.wires (event.Call k call) (called n call)
-  call_follows call range seat = go (is_nbp (kind_of_call call)) refl
+  call_follows call range seat = go (is_nbp (speaker_of_call call)) refl
     where
-      go : (b : Bool) → is_nbp (kind_of_call call) ≡ b → Good A w c ss m ct.wires (event.Call k call) (called n call)
+      go : (b : Bool) → is_nbp (speaker_of_call call) ≡ b → Good A w c ss m ct.wires (event.Call k call) (called n call)
       go true own = happened A laws w c ss m ct st t (event.Call k call) n stands (called n call) seat
           (laws.called t.setting t.history n call (stands_there A laws w c ss m ct st t (event.Call k call) n stands)
           range own)
@@ -126,9 +126,10 @@ module _ (A : Type 0) (laws : NameLaws A) (w : WorldState) (c : Cable) (ss : Ses
 
   pub timer_follows : (time : Timer) → (timed {A = A} n time).state.seat ≡ n.seat
       → Good A w c ss m ct.wires (event.Timer k time) (timed n time)
-  timer_follows time seat = go (is_nbp (kind_of_timer time)) refl
+  timer_follows time seat = go (is_nbp (speaker_of_timer time)) refl
     where
-      go : (b : Bool) → is_nbp (kind_of_timer time) ≡ b → Good A w c ss m ct.wires (event.Timer k time) (timed n time)
+      go : (b : Bool) → is_nbp (speaker_of_timer time) ≡ b → Good A w c ss m ct.wires (event.Timer k time)
+          (timed n time)
       go true own = happened A laws w c ss m ct st t (event.Timer k time) n stands (timed n time) seat
           (laws.timed t.setting t.history n time (stands_there A laws w c ss m ct st t (event.Timer k time) n stands)
           own)

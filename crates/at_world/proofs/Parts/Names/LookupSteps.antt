@@ -29,7 +29,8 @@ use Rattle.at_steps.specs.NameSteps as steps
 use Rattle.at_steps.specs.NameSteps.{Change, IsOpen, IsPlain, IsStep}
 use Rattle.at_world.specs.Cables.{Cable}
 use Rattle.at_world.specs.Events.{act_of, node_of}
-use Rattle.at_world.specs.Machine.NameGuards.{Directory, Finds, IsTaken, Lookup, NameMachine, Stood, lookup_of, next}
+use Rattle.at_world.specs.Machine.NameGuards.{Directory, Finds, IsTaken, OpenLookup, NameMachine, Stood, lookup_of}
+use Rattle.at_world.specs.Machine.NameGuards.{next}
 use Rattle.at_world.specs.Machine.NameGuards.{with_names}
 use Rattle.at_world.specs.Machine.SessionGuards.{Sessions}
 use Rattle.at_world.specs.Worlds.{WorldState, node_at}
@@ -44,7 +45,7 @@ use Rattle.at_world.proofs.Parts.Names.Steps.{so_at, plainly, plain_draws}
 
 -- a lookup of the machine that is open at a node, and may have found this
 record IsOpenHere (m : NameMachine) (k id : ℕ) (claim : Option Claimed) (finds : List Found) : Type 0 where
-  pub lookup : Lookup
+  pub lookup : OpenLookup
   pub stands : lookup_of m.lookups k id ≡ Some lookup
   pub claims : lookup.claim ≡ claim
   pub tells : Finds m.past lookup finds
@@ -52,7 +53,7 @@ record IsOpenHere (m : NameMachine) (k id : ℕ) (claim : Option Claimed) (finds
 some_begun : (a b : Begun) → Some a ≡ Some b → a ≡ b
 some_begun a b h = cc
 
-finds_are : (past : List Directory) (l : Lookup) (looked : Search) (finds : List Found) → l.pattern ≡ looked.pattern
+finds_are : (past : List Directory) (l : OpenLookup) (looked : Search) (finds : List Found) → l.pattern ≡ looked.pattern
     → looked.finds ≡ finds → IsSearch looked → AllByRecursion (Stood past l.since looked.pattern) looked.finds
     → Finds past l finds
 finds_are past l looked finds pattern is lawful stood = record {
@@ -68,14 +69,14 @@ finds_are past l looked finds pattern is lawful stood = record {
 }
 
 -- the first of what was found
-first_found : (past : List Directory) (l : Lookup) (f : Found) (fs : List Found) → Finds past l (f ∷ fs)
+first_found : (past : List Directory) (l : OpenLookup) (f : Found) (fs : List Found) → Finds past l (f ∷ fs)
     → Finds past l (f ∷ [])
 unfolding IsDistinct
 first_found past l f fs all = let lawful = all.lawful in let match = lawful.match in let stood = all.stood in
     record { lawful = record { few = omega arith; match = (match.0, tt); differ = (tt, tt) }; stood = (stood.0, tt) }
 
 -- who has the name of a claim
-taken_by : (m : NameMachine) (k : ℕ) (l : Lookup) (claim : Claimed) (owner : Found) (s : SocketState) → s.table
+taken_by : (m : NameMachine) (k : ℕ) (l : OpenLookup) (claim : Claimed) (owner : Found) (s : SocketState) → s.table
     ≡ m.names k → (finds : List Found) → Finds m.past l finds → taker s finds claim ≡ Some owner
     → IsTaken m k l claim owner
 taken_by m k l claim owner s own (f ∷ fs) tells is = let same : f

@@ -13,11 +13,11 @@ use Rattle.at_name_socket.specs.declared.claim.Claim.{Claim}
 use Rattle.at_node.specs.declared.numbers.Draw.{Draw}
 use Rattle.at_node.specs.declared.numbers.Draw.TheVariants.{Conn, Lookup as Identifier, Tid}
 use Rattle.at_steps.specs.NameHappenings.{BeginsBy}
-use Rattle.at_world.specs.Machine.NameGuards.{Lookup, is_lookup, lookup_of, without_lookup}
+use Rattle.at_world.specs.Machine.NameGuards.{OpenLookup, is_lookup, lookup_of, without_lookup}
 
 -- the machine has a lookup that is open at a node, with the moment after the event that drew its identifier
-pub record IsKnown (net : ℕ) (lookups : List Lookup) (begun : List Begun) (k id : ℕ) (o : Open) : Type 0 where
-  pub lookup : Lookup
+pub record IsKnown (net : ℕ) (lookups : List OpenLookup) (begun : List Begun) (k id : ℕ) (o : Open) : Type 0 where
+  pub lookup : OpenLookup
   pub stands : lookup_of lookups k id ≡ Some lookup
   pub pattern : lookup.pattern ≡ o.pattern
   pub claim : lookup.claim ≡ o.claim
@@ -25,13 +25,13 @@ pub record IsKnown (net : ℕ) (lookups : List Lookup) (begun : List Begun) (k i
   pub newest : newest begun (names_of net k) id ≡ Some began
   pub since : lookup.since ≡ began.event + 1
 
-abbrev pub Known : ℕ → List Lookup → List Begun → ℕ → ℕ → Option Open → Type 0
+abbrev pub Known : ℕ → List OpenLookup → List Begun → ℕ → ℕ → Option Open → Type 0
 Known net lookups begun k id None = Unit {0}
 Known net lookups begun k id (Some o) = IsKnown net lookups begun k id o
 
 -- ---- the lookups after a change at a node
 
-abbrev pub lookups_after : List Lookup → ℕ → ℕ → Change → List Lookup
+abbrev pub lookups_after : List OpenLookup → ℕ → ℕ → Change → List OpenLookup
 lookups_after ls since k Stays = ls
 lookups_after ls since k (Opens id pattern claim) =
     record { node = k; id = id; pattern = asked pattern; claim = claim; since = since } ∷ ls
@@ -45,8 +45,8 @@ IsDrawn change d = Unit {0}
 
 -- ---- entries that are found
 
-found_filtered : (k id : ℕ) (j other : ℕ) (ls : List Lookup)
-    → ((l : Lookup) → is_lookup j other l ≡ true → is_lookup k id l ≡ false)
+found_filtered : (k id : ℕ) (j other : ℕ) (ls : List OpenLookup)
+    → ((l : OpenLookup) → is_lookup j other l ≡ true → is_lookup k id l ≡ false)
     → find (is_lookup j other) (filter (λ l. not (is_lookup k id l)) ls) ≡ find (is_lookup j other) ls
 found_filtered k id j other [] apart = refl
 found_filtered k id j other (l ∷ ls) apart = go (found_filtered k id j other ls apart) (is_lookup k id l) refl
@@ -56,7 +56,7 @@ found_filtered k id j other (l ∷ ls) apart = go (found_filtered k id j other l
         find (is_lookup j other)
         (cond (not b) (l ∷ filter (λ x. not (is_lookup k id x)) ls) (filter (λ x. not (is_lookup k id x)) ls))
         ≡ find (is_lookup j other) (l ∷ ls)
-    go ih false e = ap (λ (o : Option Lookup). cond (is_lookup j other l) (Some l) o) ih
+    go ih false e = ap (λ (o : Option OpenLookup). cond (is_lookup j other l) (Some l) o) ih
     go ih true e = ih ∙ gone (is_lookup j other l) refl
       where
         gone : (b : Bool) → is_lookup j other l ≡ b → find (is_lookup j other) ls
@@ -73,7 +73,7 @@ right_false true b h = h
 right_false false b h = refl
 
 -- a lookup of another node, or under another identifier
-apart_by : (k id j other : ℕ) → ((k == j) && (id == other)) ≡ false → (l : Lookup) → is_lookup j other l ≡ true
+apart_by : (k id j other : ℕ) → ((k == j) && (id == other)) ≡ false → (l : OpenLookup) → is_lookup j other l ≡ true
     → is_lookup k id l ≡ false
 apart_by k id j other apart l is =
     let both = and_parts (l.node == j) (l.id == other) is in
@@ -95,7 +95,7 @@ IsAnother Stays k j id = Unit {0}
 IsAnother (Opens drawn pattern claim) k j id = ((k == j) && (drawn == id)) ≡ false
 IsAnother (Closes ended) k j id = ((k == j) && (ended == id)) ≡ false
 
-lookup_kept : (ls : List Lookup) (since k j id : ℕ) (change : Change) → IsAnother change k j id
+lookup_kept : (ls : List OpenLookup) (since k j id : ℕ) (change : Change) → IsAnother change k j id
     → lookup_of (lookups_after ls since k change) j id ≡ lookup_of ls j id
 lookup_kept ls since k j id Stays another = refl
 lookup_kept ls since k j id (Opens drawn pattern claim) another = rw another refl
@@ -134,7 +134,8 @@ newest_kept net event k j id (Closes ended) (Some (Conn t)) before now is begins
     ap (λ (l : List Begun). newest l (names_of net j) id) begins
 newest_kept net event k j id (Closes ended) (Some (Identifier i)) before now is begins another = absurd is
 
-module _ (net event since : ℕ) (ls : List Lookup) (k : ℕ) (change : Change) (d : Option Draw) (before now : List Begun)
+module _ (net event since : ℕ) (ls : List OpenLookup) (k : ℕ) (change : Change) (d : Option Draw)
+    (before now : List Begun)
     (drawn : IsDrawn change d) (begins : BeginsBy event (names_of net k) d before now) where
   -- a lookup that the change is not of
   kept : (j id : ℕ) (o : Option Open) → IsAnother change k j id → Known net ls before j id o
@@ -161,7 +162,8 @@ module _ (net event since : ℕ) (ls : List Lookup) (k : ℕ) (change : Change) 
       another (Closes ended) = both_false (k == j) (ended == id) apart
 
 -- the lookup that opens
-opens : (net event since : ℕ) (ls : List Lookup) (k id : ℕ) (pattern : Name) (claim : Option Claim) (d : Option Draw)
+opens : (net event since : ℕ) (ls : List OpenLookup) (k id : ℕ) (pattern : Name) (claim : Option Claim)
+    (d : Option Draw)
     (before now : List Begun) → since ≡ event + 1 → d ≡ Some (Identifier id)
     → BeginsBy event (names_of net k) d before now →
     IsKnown net (lookups_after ls since k (Opens id pattern claim)) now k id
@@ -184,7 +186,7 @@ opens net event since ls k id pattern claim (Some (Identifier i)) before now is 
     }
 
 -- the lookups of the node itself
-pub of_node : (net event since : ℕ) (ls : List Lookup) (k : ℕ) (change : Change) (d : Option Draw)
+pub of_node : (net event since : ℕ) (ls : List OpenLookup) (k : ℕ) (change : Change) (d : Option Draw)
     (before now : List Begun) → since ≡ event + 1 → IsDrawn change d → BeginsBy event (names_of net k) d before now →
     (opened : ℕ → Option Open) → ((id : ℕ) → Known net ls before k id (opened id)) → (id : ℕ)
     → Known net (lookups_after ls since k change) now k id (changed change opened id)

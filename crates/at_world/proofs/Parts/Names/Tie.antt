@@ -22,7 +22,7 @@ use Rattle.at_name_socket.specs.declared.neighbour.Neighbour.{Neighbour}
 use Rattle.at_event.specs.Kinds.{IsCall}
 use Rattle.at_node.specs.Numbers.{Carries, drawn_by}
 use Rattle.at_node.specs.Hearing.{Hears}
-use Rattle.at_event.specs.Kinds.{kind_of_call, kind_of_timer, reporter_of}
+use Rattle.at_event.specs.Kinds.{speaker_of_call, speaker_of_timer, reporter_of}
 use Rattle.at_node.specs.Nodes.{NodeState, called, timed}
 use Rattle.at_event.specs.Outcomes.{Outcome}
 use Rattle.at_node.specs.declared.numbers.Draw.TheVariants.{Lookup as Identifier}
@@ -45,18 +45,18 @@ use Rattle.at_world.proofs.Parts.Names.Times.{IsNoted}
 
 -- what the layers below promise
 pub record NameLaws (A : Type 0) : Type 0 where
-  pub foreign_call : (n : NodeState) (call : Call A) → is_nbp (kind_of_call call) ≡ false
+  pub foreign_call : (n : NodeState) (call : Call A) → is_nbp (speaker_of_call call) ≡ false
       → IsForeign n (Calls call) (called n call)
-  pub foreign_timer : (n : NodeState) (time : Timer) → is_nbp (kind_of_timer time) ≡ false
+  pub foreign_timer : (n : NodeState) (time : Timer) → is_nbp (speaker_of_timer time) ≡ false
       → IsForeign {A = A} n (Fires time) (timed n time)
   pub foreign_datagram : (n : NodeState) (which : ℕ) (to from : Address) (kind : ℕ) (bytes : List ℕ) (said : Reply A)
       (o : Outcome A NodeState) → (kind == nbp_kind) ≡ false → Hears said n (canonical to from kind bytes) o
       → IsForeign n (Gets which) o
   pub called : (setting : Setting) (history : List Happening) (n : NodeState) (call : Call A)
-      → Stands setting history n.seat.net n.seat.number n → IsCall call → is_nbp (kind_of_call call) ≡ true
+      → Stands setting history n.seat.net n.seat.number n → IsCall call → is_nbp (speaker_of_call call) ≡ true
       → IsHappening setting history n.seat.net n.seat.number n (Calls call) (called n call)
   pub timed : (setting : Setting) (history : List Happening) (n : NodeState) (time : Timer)
-      → Stands setting history n.seat.net n.seat.number n → is_nbp (kind_of_timer time) ≡ true
+      → Stands setting history n.seat.net n.seat.number n → is_nbp (speaker_of_timer time) ≡ true
       → IsHappening {A = A} setting history n.seat.net n.seat.number n (Fires time) (timed n time)
   pub heard : (setting : Setting) (history : List Happening) (n : NodeState) (which : ℕ) (s : Sent) (said : Reply A)
       (o : Outcome A NodeState) → Stands setting history n.seat.net n.seat.number n

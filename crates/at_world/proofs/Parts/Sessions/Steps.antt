@@ -27,7 +27,7 @@ use Rattle.at_steps.specs.StreamHappenings.{IsOpenable}
 use Rattle.at_world.specs.Cables.{Cable}
 use Rattle.at_world.specs.Events.{act_of, node_of}
 use Rattle.at_world.specs.Machine.NameGuards.{NameMachine}
-use Rattle.at_world.specs.Machine.SessionGuards.{Sessions, Step, with_session}
+use Rattle.at_world.specs.Machine.SessionGuards.{Sessions, SessionStep, with_session}
 use Rattle.at_nodes.specs.Nodes.{is_numbered}
 use Rattle.at_world.specs.Worlds.{WorldState, node_at, recorded}
 use Rattle.at_setup.specs.declared.event.Event.{Event}
@@ -78,7 +78,7 @@ module _ (A : Type 0) (w : WorldState) (c : Cable) (ss : Sessions) (e : Event A)
     (o : Outcome A NodeState) (st : SessionTie w c ss) (stands : node_at w (node_of e) ≡ Some n) where
   -- the sessions follow an outcome
   abbrev pub Good : Type 0
-  Good = (ss' : Sessions) × Step ss e o.report ss'
+  Good = (ss' : Sessions) × SessionStep ss e o.report ss'
       × SessionTie (recorded w (node_of e) o.report o.state (map posted o.out)) c ss'
 
   its : HasSession c.net (ss (node_of e)) n

@@ -4,7 +4,7 @@ use Rattle.std.specs.List.{list_any}
 use Rattle.at_adsp.specs.Connections.{streams}
 use Rattle.at_adsp.specs.Network.{Reads, after, done}
 use Rattle.at_event.specs.Kinds.{IsCall}
-use Rattle.at_event.specs.Kinds.{Kind, Adsp, kind_of_call, kind_of_timer, reporter_of}
+use Rattle.at_event.specs.Kinds.{Speaker, Adsp, speaker_of_call, speaker_of_timer, reporter_of}
 use Rattle.at_event.specs.Outcomes.{Outcome}
 use Rattle.at_event.specs.declared.Call.{Call}
 use Rattle.at_event.specs.declared.Call.TheVariants.{Streams}
@@ -41,7 +41,8 @@ use Rattle.at_world.proofs.Parts.Streams.Tie as tie
 use Rattle.at_world.proofs.Parts.Sessions.Tie.{HasSession, SessionTie}
 
 -- at a report of another protocol nothing changes
-nothing_changes : (A : Type 0) (c : Cable) (ss : Sessions) (m : StreamMachine) (e : Event A) (r : Report A) (k : Kind)
+nothing_changes : (A : Type 0) (c : Cable) (ss : Sessions) (m : StreamMachine) (e : Event A) (r : Report A)
+    (k : Speaker)
     → is_adsp k ≡ false → StepBy c ss m e r (next m) k
 nothing_changes A c ss m e r Adsp h = absurd (cc)
 nothing_changes A c ss m e r other h = refl
@@ -107,7 +108,7 @@ module _ (A : Type 0) (laws : StreamLaws A) (w : WorldState) (c : Cable) (ss : S
   pub call_follows : (call : Call A) → IsCall call
       → AreFree w.nodes k (λ x draw. drawn_by (called x call).report ≡ Some draw) → (called n call).state.seat ≡ n.seat
       → Good A w c ss m ct.wires (event.Call k call) (called n call)
-  call_follows call range free seat = go (is_adsp (kind_of_call call)) refl
+  call_follows call range free seat = go (is_adsp (speaker_of_call call)) refl
     where
       reads : ReadsAt A w c m ct t (event.Call k call) n (called n call)
       reads id count items is told order =
@@ -123,7 +124,8 @@ module _ (A : Type 0) (laws : StreamLaws A) (w : WorldState) (c : Cable) (ss : S
           (laws.reads t.setting t.history n id count items
           (stands_there A laws w c ss m ct st t runs (event.Call k call) n stands) told') order
 
-      go : (b : Bool) → is_adsp (kind_of_call call) ≡ b → Good A w c ss m ct.wires (event.Call k call) (called n call)
+      go : (b : Bool) → is_adsp (speaker_of_call call) ≡ b → Good A w c ss m ct.wires (event.Call k call)
+          (called n call)
       go true own = happened A laws w c ss m ct st t runs (event.Call k call) n stands (called n call) seat reads
           (laws.called t.setting t.history n call
           (stands_there A laws w c ss m ct st t runs (event.Call k call) n stands) range own
@@ -134,9 +136,10 @@ module _ (A : Type 0) (laws : StreamLaws A) (w : WorldState) (c : Cable) (ss : S
 
   pub timer_follows : (time : Timer) → (timed {A = A} n time).state.seat ≡ n.seat
       → Good A w c ss m ct.wires (event.Timer k time) (timed n time)
-  timer_follows time seat = go (is_adsp (kind_of_timer time)) refl
+  timer_follows time seat = go (is_adsp (speaker_of_timer time)) refl
     where
-      go : (b : Bool) → is_adsp (kind_of_timer time) ≡ b → Good A w c ss m ct.wires (event.Timer k time) (timed n time)
+      go : (b : Bool) → is_adsp (speaker_of_timer time) ≡ b → Good A w c ss m ct.wires (event.Timer k time)
+          (timed n time)
       go true own = happened A laws w c ss m ct st t runs (event.Timer k time) n stands (timed n time) seat
           (λ id count items is. absurd (cc))
           (laws.timed t.setting t.history n time

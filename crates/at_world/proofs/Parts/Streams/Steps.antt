@@ -26,7 +26,7 @@ use Rattle.at_adsp_ends.specs.Tables.{Done, EndTable, by_id}
 use Rattle.at_event.specs.Kinds.{reporter_of}
 use Rattle.at_event.specs.Outcomes.{Outcome}
 use Rattle.at_event.specs.declared.Call.TheVariants.{Streams}
-use Rattle.at_event.specs.declared.streams.StreamCall.TheVariants.{Open, Listen, Connect, Write, Read, Reset, Close}
+use Rattle.at_event.specs.declared.streams.StreamCall.TheVariants.{Open, Connect, Write, Read, Reset}
 use Rattle.at_event.specs.declared.Report.{Report}
 use Rattle.at_event.specs.declared.Report.TheVariants as report
 use Rattle.at_event.specs.declared.streams.StreamReport.{StreamReport}
@@ -195,16 +195,16 @@ module _ (A : Type 0) (laws : StreamLaws A) (w : WorldState) (c : Cable) (ss : S
 
   answers_step : steps.Answers its_change → Row
   answers_step s =
-      so_at A c ss m (moved m now) e (event.Deliver s.which (node_of e)) o.report
+      so_at A c ss m (moved m now) e (event.Deliver s.datagram (node_of e)) o.report
       (report.Streams (adsp_report.Made s.id))
-      (delivered_at e s.which s.act) s.report
+      (delivered_at e s.datagram s.act) s.report
       ((s.request).from, makes s.id true (s.request).from s.streams)
 
   opens_step : steps.Opens its_change → Row
   opens_step s =
-      so_at A c ss m (moved m now) e (event.Deliver s.which (node_of e)) o.report
+      so_at A c ss m (moved m now) e (event.Deliver s.datagram (node_of e)) o.report
       (report.Streams (adsp_report.Opened s.id))
-      (delivered_at e s.which s.act) s.report
+      (delivered_at e s.datagram s.act) s.report
       (record { now = now; opens = subst (λ ss. OpensWith ss now at s.id) (sym same) s.opens; becomes = refl })
 
   does : (id : ℕ) (deed : Deed) → steps.HasEnd its_change id → now ≡ with_deed at id deed old

@@ -22,7 +22,7 @@ use Rattle.at_world.proofs.Entries.{Entries}
 use Rattle.at_adsp.specs.Network.{AllTimely, Happening, NoneNames, Reads, Sent, Setting, after, dest_of, is_fresh}
 use Rattle.at_adsp.specs.Orders.{ReadsInOrder}
 use Rattle.at_event.specs.Kinds.{IsCall}
-use Rattle.at_event.specs.Kinds.{kind_of_call, kind_of_timer}
+use Rattle.at_event.specs.Kinds.{speaker_of_call, speaker_of_timer}
 use Rattle.at_event.specs.Outcomes.{Outcome}
 use Rattle.at_event.specs.declared.Call.{Call}
 use Rattle.at_event.specs.declared.Call.TheVariants.{Streams}
@@ -53,19 +53,19 @@ DrawsFree setting history net number r = (id : ℕ) → drawn_by r ≡ Some (Con
 
 -- what the layers below promise
 pub record StreamLaws (A : Type 0) : Type 0 where
-  pub foreign_call : (n : NodeState) (call : Call A) → is_adsp (kind_of_call call) ≡ false
+  pub foreign_call : (n : NodeState) (call : Call A) → is_adsp (speaker_of_call call) ≡ false
       → IsForeign n (Calls call) (called n call)
-  pub foreign_timer : (n : NodeState) (time : Timer) → is_adsp (kind_of_timer time) ≡ false
+  pub foreign_timer : (n : NodeState) (time : Timer) → is_adsp (speaker_of_timer time) ≡ false
       → IsForeign {A = A} n (Fires time) (timed n time)
   pub foreign_datagram : (n : NodeState) (which : ℕ) (to from : Address) (kind : ℕ) (bytes : List ℕ) (said : Reply A)
       (o : Outcome A NodeState) → (kind == adsp_kind) ≡ false → Hears said n (canonical to from kind bytes) o
       → IsForeign n (Gets which) o
   pub called : (setting : Setting) (history : List Happening) (n : NodeState) (call : Call A)
-      → Stands setting history n.seat.net n.seat.number n → IsCall call → is_adsp (kind_of_call call) ≡ true
+      → Stands setting history n.seat.net n.seat.number n → IsCall call → is_adsp (speaker_of_call call) ≡ true
       → DrawsFree setting history n.seat.net n.seat.number (called n call).report
       → IsHappening setting history n.seat.net n.seat.number n (Calls call) (called n call)
   pub timed : (setting : Setting) (history : List Happening) (n : NodeState) (time : Timer)
-      → Stands setting history n.seat.net n.seat.number n → is_adsp (kind_of_timer time) ≡ true
+      → Stands setting history n.seat.net n.seat.number n → is_adsp (speaker_of_timer time) ≡ true
       → IsHappening {A = A} setting history n.seat.net n.seat.number n (Fires time) (timed n time)
   pub heard : (setting : Setting) (history : List Happening) (n : NodeState) (which : ℕ) (s : Sent) (said : Reply A)
       (o : Outcome A NodeState) → Stands setting history n.seat.net n.seat.number n

@@ -3,7 +3,7 @@ use Rattle.std.proofs.lemmas.List.{append-nil}
 use Rattle.at_event.specs.Outcomes.{posted, sent_by}
 use Rattle.std.specs.Prelude.{find}
 use Rattle.at_atp_frame.specs.Frames.{content, spelled_all}
-use Rattle.at_atp_responder.specs.Records.{finds_no_place, taken, is_key, record_fault, Record}
+use Rattle.at_atp_responder.specs.Records.{finds_no_place, received, is_key, record_fault, Record}
 use Rattle.at_atp_responder.specs.declared.reception.Reception.TheVariants.{Ignored, New}
 use Rattle.at_ddp.specs.Tables.{without_first}
 use Rattle.at_ddp.specs.Protocols.{atp_kind}
@@ -16,7 +16,7 @@ serve-requires-clause-waits g c =
     let new = is_new c.args.records.now c.args.packet.now.from (content c.args.packet.now.frame) c.in-Ok-New.key
     (sym c.in-Ok-New.ensures.reception ∙ c.in-Ok-New.field-0-is) in
     ap (λ (rs : List Record). record_fault (find (is_key c.in-Ok-New.key) rs)) c.in-Ok-New.ensures.state
-    ∙ waits c.args.records.now (taken c.args.records.now c.args.packet.now.from (content c.args.packet.now.frame))
+    ∙ waits c.args.records.now (received c.args.records.now c.args.packet.now.from (content c.args.packet.now.frame))
     c.in-Ok-New.key new
 
 pub returns-in-Err-serve-clause-step : goal.returns-in-Err-serve-clause-step
@@ -26,7 +26,7 @@ returns-in-Err-serve-clause-step g c = λ s a same at.
     taken_new in
     let back : c.serve.new.records ≡ a.zone_responder =
     c.in-Err-serve.ensures.undone ∙ ap (without_first (is_key c.in-Ok-New.key)) c.in-Ok-New.ensures.state
-    ∙ undone c.args.records.now (taken c.args.records.now c.args.packet.now.from (content c.args.packet.now.frame))
+    ∙ undone c.args.records.now (received c.args.records.now c.args.packet.now.from (content c.args.packet.now.frame))
     c.in-Ok-New.key new ∙ sym same in
     let quiet : c.hear.new.out.items ≡ c.args.out.now.items =
     c.in-Ok-New.ensures.sent
@@ -38,6 +38,6 @@ returns-in-Err-serve-clause-step g c = λ s a same at.
     (ap (λ (rs : List Record). finds_no_place rs c.args.packet.now.from (content c.args.packet.now.frame))
     (sym same) ∙ full))))
     (λ is. let both : New c.in-Ok-New.key ≡ Ignored = sym taken_new
-    ∙ ap (λ (rs : List Record). (taken rs c.args.packet.now.from (content c.args.packet.now.frame)).reception)
+    ∙ ap (λ (rs : List Record). (received rs c.args.packet.now.from (content c.args.packet.now.frame)).reception)
     (sym same) ∙ is in absurd (cc)) in
     ((λ i. record a { zone_responder = back i }), c.in-Err-serve.ensures.nothing_sent ∙ quiet, some)

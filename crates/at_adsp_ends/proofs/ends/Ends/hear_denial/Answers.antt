@@ -2,7 +2,7 @@ use Rattle.std.proofs.Common.{refl, sym, ap}
 use Rattle.std.specs.Prelude.{◌&&◌}
 use Rattle.at_ddp.specs.Address.{same_address}
 use Rattle.at_adsp_end.specs.Ends.{is_opening}
-use Rattle.at_adsp_end.specs.declared.step.Step.TheVariants.{Denied}
+use Rattle.at_adsp_end.specs.declared.change.EndChange.TheVariants.{Denied}
 use Rattle.at_adsp_ends.specs.Tables.{has_id}
 use Rattle.at_adsp_ends.proofs.Places.{end_at, named_at, none_at, test_at}
 use Rattle.at_adsp_ends.proofs.MoveLemmas as move

@@ -71,7 +71,8 @@ invariant_of-self-2 g c =
     let h = heard_some r c.args.from _ _ _ _ _ _ c.in-Some.index c.in_ok-step.step c.hear.new.self
     c.settle.new.standing.items c.args.out.now c.hear.new.out f e c.settle.ensures.items in (
       subst IsRequester (sym h.is_new) (heard_lawful g.row.A.Denot r c.args.from
-          (Response c.in-Response.place c.in-Response.eom c.in-Response.sts c.in-Response.tid c.in-Response.user
+          (Response c.in-Response.sequence_number c.in-Response.eom c.in-Response.sts c.in-Response.tid
+          c.in-Response.user
           c.in-Response.data_.now) c.self.invariant.0),
       c.settle.ensures.filed,
     )

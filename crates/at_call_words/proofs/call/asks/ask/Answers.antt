@@ -1,14 +1,13 @@
 use Rattle.std.proofs.Common.{codes, refl, Err}
-use Rattle.at_faults.specs.declared.fault.LineFault.TheVariants.{Unlawful}
-use Rattle.at_faults.specs.declared.rule.Rule.TheVariants.{Ask}
 use Rattle.at_words.specs.Hexes.{IsHex}
 use Rattle.at_words.specs.Words.{words_of}
-use Rattle.at_call_words.proofs.CallLemmas.{ask_at, call_told_on, unlawful_call}
+use Rattle.at_call_words.proofs.CallLemmas.{call_told_on, unlawful_call}
+use Rattle.at_call_words.proofs.CallLemmas.Transactions.{ask_at}
 use Rattle.at_call_words.proofs.call.asks.ask.Goals as goal
 
 pub returns-in_default : goal.returns-in_default
 returns-in_default g c =
-    unlawful_call (Err (Unlawful Ask)) (Unlawful Ask) (codes "ask") (words_of c.args.words.rest.now) refl
+    unlawful_call (Err c.broken.result) c.broken.result (codes "ask") (words_of c.args.words.rest.now) refl
     (λ (node, socket, user, bytes, wanted, once, retries, says).
     let (n, s, u, d, w, m, r, are, one, two, three, four, five, six, seven) = says in
     c.in_default.ensures.only refl n s u d w m r node socket wanted retries user once are one two three five six seven)

@@ -10,28 +10,28 @@ use Rattle.at_pcap.specs.Frames.{frame_with}
 use Rattle.at_capture.proofs.capture_printer.CapturePrinterSink.take.Goals as goal
 
 pub returns-clause-ok : goal.returns-clause-ok
-returns-clause-ok g c frames kinds has =
+returns-clause-ok g c frames verdicts has =
     let f : Content = frame_of (frame_with c.args.header c.args.bytes.now) in
     let old = c.args.self.now in
     let answered = c.in_ok-answered.answered in
-    let kind = c.write_frame-kind.result in
-    let shown = c.write_frame-kind.ensures.printed in
-    let here = next_number c.saturating_add-number.result old.tally kinds frames has.tally has.as_many
+    let verdict = c.write_frame-verdict.result in
+    let shown = c.write_frame-verdict.ensures.printed in
+    let here = next_number c.saturating_add-number.result old.tally verdicts frames has.tally has.as_many
     c.saturating_add-number.ensures in
     let taken = c.in_ok-answered.ensures.taken frames f has.recalls
     (subst (λ h. IsRole (PlaysRole h) c.role_of.result) c.of-frame.ensures c.role_of.ensures) here in
     record {
       answered = answered;
-      kind = kind;
+      verdict = verdict;
       text = shown.0;
       answers = taken.0;
-      is = subst (λ n. FrameText n answered f kind shown.0) here
-          (subst (λ h. FrameText c.saturating_add-number.result answered h kind shown.0) c.of-frame.ensures shown.1);
+      is = subst (λ n. FrameText n answered f verdict shown.0) here
+          (subst (λ h. FrameText c.saturating_add-number.result answered h verdict shown.0) c.of-frame.ensures shown.1);
       printed = shown.2;
-      told = c.write_frame-kind.ensures.told;
+      told = c.write_frame-verdict.ensures.told;
       counts = record {
-        tally = c.with-self.ensures kinds has.tally;
-        as_many = one_longer kinds frames kind f has.as_many;
+        tally = c.with-self.ensures verdicts has.tally;
+        as_many = one_longer verdicts frames verdict f has.as_many;
         recalls = taken.1;
       };
     }
@@ -43,7 +43,7 @@ returns-in_err-answered-clause-err g c =
     on_error _ (IsUnprinted old (record old { asked = now })) (record {
       printer = refl;
       diagnostics = refl;
-      counts = λ frames kinds has. record {
+      counts = λ frames verdicts has. record {
         tally = has.tally;
         as_many = has.as_many;
         recalls = recalls_same frames old.asked now c.in_err-answered.ensures.err has.recalls;

@@ -11,7 +11,8 @@ invariant_of-self g c =
     let last = rw (c.unwrap-4.ensures, c.len-end.ensures, c.extend_from_slice-3.new.self.ok.0) at
     c.push.ensures.items in
     marks_after c.self.inside.marks.items _ c.self.inside.bytes.items _ _ c.args.node c.self.invariant
-    (in_parts c.self.inside.bytes.items _ _ _ c.args.header.now c.args.front.now c.args.back.now first second third) last
+    (in_parts c.self.inside.bytes.items _ _ _ c.args.header.now c.args.front.now c.args.back.now first second third)
+    last
 
 pub returns-clause-ok : goal.returns-clause-ok
 returns-clause-ok g c =
@@ -21,5 +22,6 @@ returns-clause-ok g c =
     let last = rw (c.unwrap-4.ensures, c.len-end.ensures, c.extend_from_slice-3.new.self.ok.0) at
     c.push.ensures.items in
     pieces_after c.self.inside.marks.items _ c.self.inside.bytes.items _ _ c.args.node _ c.self.invariant
-    (in_parts c.self.inside.bytes.items _ _ _ c.args.header.now c.args.front.now c.args.back.now first second third) last
+    (in_parts c.self.inside.bytes.items _ _ _ c.args.header.now c.args.front.now c.args.back.now first second third)
+    last
     (ap (λ (d : Datagrams). d.items) c.self.view_is ∙ c.in_ok-reserve.ensures.items)

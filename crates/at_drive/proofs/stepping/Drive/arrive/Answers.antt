@@ -1,5 +1,5 @@
-use Rattle.std.proofs.Common.{ap, ◌∙◌}
-use Rattle.at_drive.specs.Drives.{Driven, Driving, Logged}
+use Rattle.std.proofs.Common.{ap}
+use Rattle.at_drive.specs.Drives.{Driving, Logged}
 use Rattle.at_drive.proofs.stepping.Drive.arrive.Goals as goal
 
 pub returns-clause-driven : goal.returns-clause-driven

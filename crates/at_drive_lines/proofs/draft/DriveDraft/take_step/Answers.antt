@@ -34,7 +34,8 @@ returns-then-not-stands_among-clause-only g c =
     ≡ list_any (λ n. n.node == c.node.result) c.nodes.result.now =
     (λ i. list_any (λ n. n.node == sym c.node.ensures i) (sym c.nodes.ensures i)) in
     stands_barred (A-type g.row.A) c.args.self.now line law.setups law.drafts c.requires.stage c.requires.word
-    c.in-Ok.step c.take_event.new.self c.in-Ok.ensures.said c.lines_say_one_setup.ensures.same c.in_default.ensures.taken
+    c.in-Ok.step c.take_event.new.self c.in-Ok.ensures.said c.lines_say_one_setup.ensures.same
+    c.in_default.ensures.taken
     (same ∙ sym c.stands_among.ensures ∙ c.if-not-stands_among.true)
 
 pub returns-clause-taken : goal.returns-clause-taken

@@ -1,4 +1,3 @@
-use Rattle.std.proofs.Common.{◌≡◌}
 use Rattle.at_drive_lines.proofs.LineLemmas.{line_comes, some_left}
 use Rattle.at_drive_lines.proofs.lines.ReadLinesLines.advance.Goals as goal
 

@@ -10,7 +10,11 @@ use Rattle.at_print.proofs.printer.Printer.write_each.Goals as goal
 
 pub loop-part-preserved : goal.loop-part-preserved
 loop-part-preserved g c =
-    Prints-next g.W.Paper.page part_text c.args.parts.now c.loop-part.part-index (Text record { ref_ptr = (0, 0); now = [] }) _
+    Prints-next g.W.Paper.page part_text c.args.parts.now c.loop-part.part-index (Text record {
+      ref_ptr =
+          (0, 0);
+      now = [];
+    }) _
     c.args.self.now c.loop-part.self c.write_part.new.self c.loop-part-test.true refl
     c.loop-part.invariant c.write_part.ensures
 

@@ -13,7 +13,8 @@ use Rattle.at_stream_socket.proofs.socket.StreamSocket.hear.Goals.{in-Ok-heard, 
 pub returns-then-datagram-clause-comes : goal.returns-then-datagram-clause-comes
 returns-then-datagram-clause-comes g c =
     let d = c.args.packet.now in
-    let other : (d.to.socket == 130) ≡ false = ap (λ (d : Content). d.to.socket == 130) (sym c.datagram-datagram.ensures)
+    let other : (d.to.socket == 130) ≡ false = ap (λ (d : Content). d.to.socket == 130)
+    (sym c.datagram-datagram.ensures)
     ∙ ne_eqb (content c.datagram-datagram.result).to.socket 130 c.if-datagram.true in
     other_ignored g.row.A.Denot c.args.seat c.args.self.now d c.args.out.now.items other
 

@@ -3,7 +3,8 @@ use Rattle.at_world.proofs.log.Log.record.Goals as goal
 
 pub returns-clause-recorded : goal.returns-clause-recorded
 returns-clause-recorded g c =
-    recorded_in g.row.A.Denot c.add-recorded.new.self _ c.is_err-self.result c.add-recorded.result c.is_err-self.ensures.value
+    recorded_in g.row.A.Denot c.add-recorded.new.self _ c.is_err-self.result c.add-recorded.result
+    c.is_err-self.ensures.value
     c.add-recorded.ensures.added
 
 pub returns-clause-failed : goal.returns-clause-failed

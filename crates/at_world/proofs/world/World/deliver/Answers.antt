@@ -1,5 +1,5 @@
-use Rattle.std.proofs.Common.{rules, ◌≡◌, ◌∙◌, [], List, None, Some, length, sym, ap, refl, subst, arith, true}
-use Rattle.std.specs.Prelude.{nat_le, nat_lt, ◌||◌, slice_get, IfErr}
+use Rattle.std.proofs.Common.{◌≡◌, ◌∙◌, List, None, Some, length, sym, ap, refl, subst, arith, true}
+use Rattle.std.specs.Prelude.{slice_get}
 use Rattle.std.specs.List.{position_from}
 use Rattle.at_ddp.specs.Datagrams.{Posted}
 use Rattle.at_ddp.proofs.TableLemmas.{Found, found_by, none_by}
@@ -20,9 +20,9 @@ use Rattle.at_world.proofs.world.World.deliver.Goals as goal
 
 -- the datagram that is to be delivered
 sent_there : (g : Over) (c : After-get-sent g) → (s : SentDatagram)
-    × (slice_get c.args.self.now.sent c.args.which ≡ Some s) × (c.get-sent.result.event ≡ s.event)
+    × (slice_get c.args.self.now.sent c.args.datagram ≡ Some s) × (c.get-sent.result.event ≡ s.event)
     × (c.get-sent.result.to ≡ s.to) × (c.get-sent.result.bytes.now ≡ s.bytes)
-sent_there g c = subst (λ (w : WorldState). (s : SentDatagram) × (slice_get w.sent c.args.which ≡ Some s)
+sent_there g c = subst (λ (w : WorldState). (s : SentDatagram) × (slice_get w.sent c.args.datagram ≡ Some s)
     × (c.get-sent.result.event ≡ s.event) × (c.get-sent.result.to ≡ s.to) × (c.get-sent.result.bytes.now ≡ s.bytes))
     c.self.view_is c.get-sent.ensures
 
@@ -43,14 +43,14 @@ for_there : (g : Over) (c : In-Some g) (s : SentDatagram) → c.get-sent.result.
     → is_for s c.args.node ≡ true
 for_there g c s same = sym (c.if-not-is_for.ensures ∙ for_same s c.get-sent.result.to c.args.node same)
 
-pub returns-then-which-len-clause-not_played : goal.returns-then-which-len-clause-not_played
-returns-then-which-len-clause-not_played g c = (
-  not_sent g.row.A.Denot c.args.self.now c.args.which c.args.node c.requires.runs
+pub returns-then-datagram-len-clause-not_played : goal.returns-then-datagram-len-clause-not_played
+returns-then-datagram-len-clause-not_played g c = (
+  not_sent g.row.A.Denot c.args.self.now c.args.datagram c.args.node c.requires.runs
       (omega (
         arith,
         ap (λ (w : WorldState). length w.sent) c.self.view_is,
         c.len.ensures,
-        c.if-which-len.true,
+        c.if-datagram-len.true,
       )),
   refl,
 )
@@ -62,7 +62,7 @@ returns-in_default-clause-not_played g c =
     ≡ true = sym (c.if-not-is_for.ensures ∙ for_same s.0 c.get-sent.result.to c.args.node s.3) in
     let none = none_by (is_numbered c.args.node) c.self.inside.nodes.items c.deref.result.now c.place_of.result
     c.deref.ensures.value c.place_of.ensures c.in_default.is in (
-      for_it g.row.A.Denot c.args.self.now c.args.which c.args.node s.0 _ c.requires.runs s.1 for
+      for_it g.row.A.Denot c.args.self.now c.args.datagram c.args.node s.0 _ c.requires.runs s.1 for
           (none_stands c.args.self.now c.args.node c.self.inside.nodes.items
           (ap (λ (w : WorldState). w.nodes) c.self.view_is) none),
       refl,
@@ -72,11 +72,12 @@ pub returns-then-not-is_fresh-clause-not_played : goal.returns-then-not-is_fresh
 returns-then-not-is_fresh-clause-not_played g c =
     let at = (goal.at.returns-then-not-is_fresh-clause-not_played g c).In-Some in
     let s = sent_there g (goal.at.returns-then-not-is_fresh-clause-not_played g c).After-get-sent in
-    let stale = stale_there g.row.A.Denot c.args.self.now c.args.which c.args.node s.0 c.self.inside.log.last
+    let stale = stale_there g.row.A.Denot c.args.self.now c.args.datagram c.args.node s.0 c.self.inside.log.last
     c.of-packet.result c.get-sent.result.event s.1 (ap (λ (w : WorldState). w.last) c.self.view_is)
     (c.of-packet.ensures ∙ s.4) s.2 (c.is_fresh.ensures.stale c.if-not-is_fresh.true) in (
       (
-        for_it g.row.A.Denot c.args.self.now c.args.which c.args.node s.0 _ c.requires.runs s.1 (for_there g at s.0 s.3)
+        for_it g.row.A.Denot c.args.self.now c.args.datagram c.args.node s.0 _ c.requires.runs s.1
+            (for_there g at s.0 s.3)
             (there g at),
         stale,
       ),
@@ -96,9 +97,10 @@ returns-then-draws_held-clause-not_played g c =
     let held = subst (λ l. ¬ AreFree l c.args.node (λ n draw. DrawsHearing n c.of-packet.result draw)) same
     (c.draws_held.ensures.held c.if-draws_held.true) in (
       (
-        for_it g.row.A.Denot c.args.self.now c.args.which c.args.node s.0 _ c.requires.runs s.1 (for_there g at s.0 s.3)
+        for_it g.row.A.Denot c.args.self.now c.args.datagram c.args.node s.0 _ c.requires.runs s.1
+            (for_there g at s.0 s.3)
             (there g at),
-        held_there g.row.A.Denot c.args.self.now c.args.which c.args.node s.0 c.of-packet.result s.1
+        held_there g.row.A.Denot c.args.self.now c.args.datagram c.args.node s.0 c.of-packet.result s.1
             (c.of-packet.ensures ∙ s.4) held,
       ),
       refl,
@@ -115,12 +117,12 @@ record-requires g c = few_events c.args.self.now c.self.inside.log.events
 
 -- nothing refuses the delivery
 deliverable_there : (g : Over) (c : Else-draws_held g) → node_refusal (node_at c.args.self.now c.args.node) ≡ None
-    → (s : SentDatagram) → slice_get c.args.self.now.sent c.args.which ≡ Some s → is_for s c.args.node ≡ true
+    → (s : SentDatagram) → slice_get c.args.self.now.sent c.args.datagram ≡ Some s → is_for s c.args.node ≡ true
     → c.get-sent.result.event ≡ s.event → c.get-sent.result.bytes.now ≡ s.bytes
-    → IsPlayable {A = g.row.A.Denot} c.args.self.now (event.Deliver c.args.which c.args.node)
+    → IsPlayable {A = g.row.A.Denot} c.args.self.now (event.Deliver c.args.datagram c.args.node)
 deliverable_there g c stands s is for when same =
     let bytes = c.of-packet.ensures ∙ same in
-    deliverable g.row.A.Denot c.args.self.now c.args.which c.args.node s c.requires.runs is for stands
+    deliverable g.row.A.Denot c.args.self.now c.args.datagram c.args.node s c.requires.runs is for stands
     (fresh_there c.args.self.now s c.self.inside.log.last c.of-packet.result c.get-sent.result.event
     (ap (λ (w : WorldState). w.last) c.self.view_is) bytes when (c.is_fresh.ensures.fresh c.if-not-is_fresh.false))
     (subst (HeardFree c.args.self.now c.args.node) bytes
@@ -135,9 +137,11 @@ returns-clause-played g c =
     let f = stands_there g at in
     let same = ap (λ (w : WorldState). w.nodes) c.self.view_is in
     let given = c.index_mut.result.now in (
-      deliverable_there g (goal.at.returns-clause-played g c).Else-draws_held (there g at) s.0 s.1 (for_there g at s.0 s.3)
+      deliverable_there g (goal.at.returns-clause-played g c).Else-draws_held (there g at) s.0 s.1
+          (for_there g at s.0 s.3)
           s.2 s.4,
-      delivered g.row.A.Denot c.args.self.now c.args.which c.args.node s.0 c.of-packet.result _ c.take-report.result s.1
+      delivered g.row.A.Denot c.args.self.now c.args.datagram c.args.node s.0 c.of-packet.result _
+          c.take-report.result s.1
           (for_there g at s.0 s.3) (c.of-packet.ensures ∙ s.4) (record {
             node = given;
             stands = node_stands c.args.self.now c.args.node c.self.inside.nodes.items c.in-Some.place given same f
@@ -147,8 +151,10 @@ returns-clause-played g c =
             steps = subst (λ (ps : List Posted). Receives c.of-packet.result given ps c.take-report.result
                 c.take-report.new.node c.take-report.new.out.items) c.self.invariant.0 c.take-report.ensures.takes;
             booked = recorded_by g.row.A.Denot g.row.A.Denot c.args.self.now c.args.node c.in-Some.place
-                c.take-report.result c.drawn_by.result c.self.inside.nodes.items c.take-report.new.node c.self.inside.log
-                c.record.new.self c.take-report.new.out.items c.drawn_by.ensures c.self.view_is f c.in-Ok.ensures.recorded;
+                c.take-report.result c.drawn_by.result c.self.inside.nodes.items c.take-report.new.node
+                c.self.inside.log
+                c.record.new.self c.take-report.new.out.items c.drawn_by.ensures c.self.view_is f
+                c.in-Ok.ensures.recorded;
           }),
     )
 
@@ -158,14 +164,15 @@ returns-in_default-record-clause-not_played g c =
     let s = sent_there g (goal.at.returns-in_default-record-clause-not_played g c).After-get-sent in (
       c.in_default-record.ensures.failed.0,
       c.in_default-record.ensures.failed.1 ∙ ap (λ (w : WorldState). w.sent) c.self.view_is,
-      λ whole. deliverable_there g (goal.at.returns-in_default-record-clause-not_played g c).Else-draws_held (there g at)
+      λ whole. deliverable_there g (goal.at.returns-in_default-record-clause-not_played g c).Else-draws_held
+          (there g at)
           s.0 s.1 (for_there g at s.0 s.3) s.2 s.4,
     )
 
 -- ---- each node keeps to its limits
 
-pub returns-then-which-len-clause-within : goal.returns-then-which-len-clause-within
-returns-then-which-len-clause-within g c =
+pub returns-then-datagram-len-clause-within : goal.returns-then-datagram-len-clause-within
+returns-then-datagram-len-clause-within g c =
     subst AreWithin (ap (λ (w : WorldState). w.nodes) c.self.view_is) c.self.invariant.1
 
 pub returns-then-not-is_for-clause-within : goal.returns-then-not-is_for-clause-within

@@ -1,4 +1,3 @@
-use Rattle.std.proofs.Common.{◌∙◌, refl}
 use Rattle.at_world.proofs.EventLemmas.{forged, not_forged}
 use Rattle.at_world.proofs.world.World.forge.Goals as goal
 

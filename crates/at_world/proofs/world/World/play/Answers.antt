@@ -1,4 +1,4 @@
-use Rattle.std.proofs.Common.{◌≡◌, ◌∙◌, List, sym, ap, refl, subst, arith}
+use Rattle.std.proofs.Common.{◌∙◌, List, sym, ap, refl, subst, arith}
 use Rattle.std.specs.List.{position_from}
 use Rattle.at_ddp.specs.Datagrams.{Posted}
 use Rattle.at_ddp.proofs.TableLemmas.{Found, found_by, none_by}

@@ -32,12 +32,12 @@ returns-in-Call-clause-not_played g c =
 
 pub returns-in-Deliver-clause-played : goal.returns-in-Deliver-clause-played
 returns-in-Deliver-clause-played g c =
-    came g.row.A.Denot c.args.self.now c.deliver.new.self c.args.event.now c.in-Deliver.which c.in-Deliver.node
+    came g.row.A.Denot c.args.self.now c.deliver.new.self c.args.event.now c.in-Deliver.datagram c.in-Deliver.node
     c.deliver.result c.in-Deliver.is c.deliver.ensures.played
 
 pub returns-in-Deliver-clause-not_played : goal.returns-in-Deliver-clause-not_played
 returns-in-Deliver-clause-not_played g c =
-    not_came g.row.A.Denot c.args.self.now c.deliver.new.self c.args.event.now c.in-Deliver.which c.in-Deliver.node
+    not_came g.row.A.Denot c.args.self.now c.deliver.new.self c.args.event.now c.in-Deliver.datagram c.in-Deliver.node
     c.deliver.result c.in-Deliver.is c.deliver.ensures.not_played
 
 pub returns-in-Forge-clause-played : goal.returns-in-Forge-clause-played

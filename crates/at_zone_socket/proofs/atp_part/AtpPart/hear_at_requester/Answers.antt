@@ -26,7 +26,7 @@ returns-in-Some-clause-comes g c =
     let f : Content = content p.frame in
     let inside : AtpState = opened c.self.view_is in
     let h = c.hear_page in
-    let same = (λ i. both inside.transactions (sym c.in-Some.ensures.taken i)) ∙ c.self.view_is in
+    let same = (λ i. both inside.transactions (sym c.in-Some.ensures.received i)) ∙ c.self.view_is in
     subst (λ (a : AtpState). Comes (AtRequester p.seat a p.from f) a c.args.out.now.items h.result
     (both h.new.transactions h.new.self) h.new.out.items) same h.ensures.comes
 

@@ -2,7 +2,7 @@ use Rattle.std.proofs.Common.{◌≡◌, codes, subst}
 use Rattle.at_words.specs.Numbers.{IsCount}
 use Rattle.at_words.specs.Words.{words_of}
 use Rattle.at_call_words.proofs.CallLemmas.{no_call}
-use Rattle.at_call_words.proofs.call.session.open.Goals as goal
+use Rattle.at_call_words.proofs.call.streams.open.Goals as goal
 
 pub returns-in_err-index : goal.returns-in_err-index
 returns-in_err-index g c = no_call c.from_residual-in_err-index.result (codes "open")

@@ -2,7 +2,7 @@
 
 /// What came of a segment, of a tick, or of the closing of an end. Ends are named by their connection identifiers.
 #[derive(Clone, Copy, Debug, PartialEq, Eq)]
-pub enum Step {
+pub enum EndChange {
     /// The segment had no effect.
     Ignored,
     /// A request for a connection made this end.

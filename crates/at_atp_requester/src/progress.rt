@@ -5,7 +5,7 @@ use std::alloc::{Allocator, Global};
 
 /// What came of a packet at a requester.
 #[derive(Drop)]
-pub enum Step<A: Allocator = Global> {
+pub enum RequestProgress<A: Allocator = Global> {
     /// The packet had no effect.
     Ignored,
     /// The packet was kept. Others are still wanted.
