@@ -9,6 +9,8 @@ import re
 from collections.abc import Iterator
 from typing import NamedTuple, Optional
 
+import protocols
+
 EVENTS = {b"call", b"deliver", b"timer", b"forge"}
 ESCAPE = re.compile(rb"\\(?:[nrt\\]|x[0-9A-Fa-f]{2})")
 # What comes of an input: `(nothing)`, or printed lines, with or without `...` before them; then
@@ -16,7 +18,7 @@ ESCAPE = re.compile(rb"\\(?:[nrt\\]|x[0-9A-Fa-f]{2})")
 PRINTED = rb"\(nothing\)\n|(?:\.\.\.\n)?(?:(?!\(nothing\)\n|\.\.\.\n|!).+\n)+"
 WANTED = re.compile(rb"(" + PRINTED + rb")((?:! .+\n)*)")
 
-# The sentences that several cases have, and those of refusals by their numbers.
+# The sentences that several cases have, and those of refusals that are no protocol's, by their numbers.
 SENTENCES = pathlib.Path(__file__).parent / "sentences"
 
 Line = tuple[int, bytes]
@@ -43,8 +45,11 @@ class Case(NamedTuple):
 
 def sentences() -> dict[bytes, bytes]:
     """The sentence of each name, and of each number of a refusal."""
-    lines = SENTENCES.read_bytes().splitlines()
-    return dict((words[0], words[1]) for words in (line.split(b" ", 1) for line in lines))
+    *first, last = (f"`{word}`" for word in protocols.calls())
+    lines = SENTENCES.read_text().replace("{calls}", f"{', '.join(first)} or {last}").splitlines()
+    known = [line.split(" ", 1) for line in lines]
+    known += [(str(number), text) for number, text in protocols.rows("SENTENCES").items()]
+    return {name.encode(): text.encode() for name, text in known}
 
 
 KNOWN = sentences()

@@ -1,5 +1,7 @@
 """What the language of schedules has of each protocol. A protocol is a file here, with those of these that it has:
 
+SENTENCES       the sentence of each refusal that is the protocol's own, by its number
+PLACE           where its calls stand in the sentence that lists all calls
 REPORTS         the words after the first word of each report: their pattern
 COMES           the reports of each kind of event, and its refusals
 HEARD, REFUSED  the reports of a packet that comes, and its refusals
@@ -30,3 +32,9 @@ def rows(name):
 def words(name):
     """The words that all protocols have of this name."""
     return [word for found in each(name) for word in found]
+
+
+def calls():
+    """The words of all calls, in the order in which the sentence of a call at fault has them."""
+    placed = sorted((module for module in MODULES if hasattr(module, "PLACE")), key=lambda module: module.PLACE)
+    return [event.split(" ")[1] for module in placed for event in module.COMES if event.startswith("call ")]

@@ -9,6 +9,19 @@ REPORTS = {
     "names": number(1, 64),
     "finds": number(1, 15),
 }
+SENTENCES = {
+    20: "the NBP packet is under 2 bytes, or ends in the address of a tuple",
+    21: "the NBP function is not 1, 2, 3 or 4",
+    22: "a BrRq, LkUp or FwdReq has not exactly one tuple, or a reply has more than 15",
+    23: "an object, a type or a zone is cut short or over 32 bytes",
+    24: "the node has a name with this object and type already",
+    25: "the node has no name with this object and type",
+    26: "the object or the type of a name is empty or just `=`",
+    27: "the node has 64 names already",
+    28: "the node has 8 open lookups already",
+    29: "the node has no open lookup with this identifier",
+}
+PLACE = 4
 COMES = {
     "call find": ("looking", (28,)),
     "call claim": ("looking", (26, 28)),

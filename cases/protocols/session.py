@@ -2,6 +2,7 @@
 
 from protocols.zones import ZONES
 
+PLACE = 3
 COMES = {"call pick": ("done", (61,))}
 
 

@@ -14,6 +14,19 @@ REPORTS = {
     "heard": f"{END} {number(0, 573)}",
     "dropped": END,
 }
+SENTENCES = {
+    40: "the ADSP packet is under 13 bytes, or opens a connection in under 21 bytes",
+    41: "the control code of an ADSP packet is over 8",
+    42: "the version of the ADSP connection to open is not 0100",
+    43: "the ADSP packet is an attention message, which is not supported",
+    44: "the ADSP packet has over 572 bytes of data",
+    50: "the node already has 16 stream ends",
+    51: "this end of the stream is not open",
+    52: "the node has no stream end with this identifier",
+    53: "the stream's send queue is full",
+    54: "the connection was denied",
+}
+PLACE = 5
 COMES = {
     "call open": ("opening", (50, 62)),
     "call listen": ("done", ()),

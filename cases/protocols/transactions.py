@@ -9,6 +9,18 @@ REPORTS = {
     "failed": SHORT,
     "asked": f"{BYTE} {BYTE} {SHORT} [0-9A-F]{{8}} {DATA}",
 }
+SENTENCES = {
+    10: "the ATP packet is under 8 bytes, so its header is cut short",
+    11: "the function bits are 00, which is no ATP packet",
+    12: "the sequence number of an ATP response is over 7",
+    13: "a packet has over 578 bytes of data, or the answer has over 8 packets",
+    14: "the node already has 32 open transactions, or the socket already has 64 records",
+    15: "no open transaction has this number, or no record is kept of this request",
+    16: "the answer has no packets",
+    17: "a request that still waits for its answer cannot expire",
+    18: "the request has already been answered",
+}
+PLACE = 2
 COMES = {
     "call ask": ("begun", (13, 14)),
     "call answer": ("answered", (13, 15, 16, 18)),
