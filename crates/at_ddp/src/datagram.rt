@@ -2,7 +2,7 @@
 ghost use Rattle.std.specs.Prelude.{◌≡◌, ◌≢◌, ◌+◌, ◌<◌, ◌≤◌, ◌++◌, ◌↔◌, List, ℕ, length, IfOk, IfErr, OnOk, OnErr};
 ghost use Rattle.std.specs.Prelude.{IsOkAnd, IsErrOf, vec_len, vec_capacity};
 ghost use Rattle.at_ddp.specs.Datagram.{Content, content, BeginsWith, canonical};
-ghost use Rattle.at_ddp.specs.Fault.{IsFirstFault};
+ghost use Rattle.at_ddp.specs.Fault.{IsFirstFault, stated_length};
 
 use crate::address::Address;
 use crate::fault::DdpFault;
@@ -46,23 +46,13 @@ fn parse(input: &[u8]) -> Result<(Datagram<'_>, &[u8]), DdpFault>
     ensures found { IfOk result (λ r. BeginsWith input.now (content r.0) r.1.now) }
     ensures fault { IfErr result (λ fault. IsFirstFault fault input.now) }
 {
-    if input.len() < HEADER_LEN {
-        return Err(DdpFault::Short);
-    }
-    let word = BigEndian::read_u16(input);
-    let len = usize::from(word % 1024);
-    if len < HEADER_LEN || len > HEADER_LEN + MAX_DATA {
-        return Err(DdpFault::BadLength);
-    }
-    if input.len() < len {
-        return Err(DdpFault::Truncated);
-    }
+    let len = stated_len(input)?;
     let sum = BigEndian::read_u16(&input[2..]);
     if sum != 0 && sum != rotating_sum(&input[4..len]) {
         return Err(DdpFault::BadSum);
     }
     let datagram = Datagram {
-        hops: (word / 1024 % 16) as u8,
+        hops: input[0] / 4 % 16,
         sum,
         to: Address {
             net: BigEndian::read_u16(&input[4..]),
@@ -78,6 +68,26 @@ fn parse(input: &[u8]) -> Result<(Datagram<'_>, &[u8]), DdpFault>
         data_: &input[HEADER_LEN..len],
     };
     Ok((datagram, &input[len..]))
+}
+
+/// The length that the header states, if a datagram may have it and the input has so many bytes.
+fn stated_len(input: &[u8]) -> Result<usize, DdpFault>
+    ensures len { IfOk result (λ len. len ≡ stated_length input.now) }
+    ensures in_range { IfOk result (λ len. (13 ≤ len) × (len ≤ 599)) }
+    ensures whole { IfOk result (λ len. len ≤ length input.now) }
+    ensures fault { IfErr result (λ fault. IsFirstFault fault input.now) }
+{
+    if input.len() < HEADER_LEN {
+        return Err(DdpFault::Short);
+    }
+    let len = usize::from(BigEndian::read_u16(input) % 1024);
+    if len < HEADER_LEN || len > HEADER_LEN + MAX_DATA {
+        return Err(DdpFault::BadLength);
+    }
+    if input.len() < len {
+        return Err(DdpFault::Truncated);
+    }
+    Ok(len)
 }
 
 /// Appends a datagram in the canonical spelling: no hops, a computed checksum, and 0 in the free bits.
