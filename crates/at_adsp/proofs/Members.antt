@@ -1,57 +1,16 @@
--- Which entries are in a list, also where one of them changes.
-use Rattle.std.proofs.Common.{◌≡◌, ℕ, zero, suc, ◌<◌, Bool, true, false, cond, List, [], ◌∷◌, map, length}
-use Rattle.std.proofs.Common.{slice_index_or, find, Contains, Option, Some, ◌⊎◌, inl, inr, refl, sym, ap, subst, ◌∙◌}
+-- Which entries are in a list, where one of them changes.
+use Rattle.std.proofs.Common.{◌≡◌, ℕ, ◌<◌, Bool, true, false, cond, List, [], ◌∷◌, map}
+use Rattle.std.proofs.Common.{find, Option, Some, ◌⊎◌, inl, inr, refl, sym, ap, subst, ◌∙◌}
 use Rattle.std.proofs.Common.{arith}
 use Rattle.std.proofs.lemmas.Bool.{eq-eqb}
 use Rattle.at_ddp.specs.declared.address.Address.{Address}
+use Rattle.at_ddp.proofs.MemberLemmas.{There}
 use Rattle.at_adsp.specs.Network.{Made, born}
 use Rattle.at_adsp.specs.Streams.{Stream, has_number, with_peer}
 use Rattle.at_adsp.proofs.Finds.{some_same}
 use Rattle.at_adsp.proofs.Growth.{Fall, unequal}
 
--- it is an entry
-abbrev pub There : {X : Type 0} → List X → X → Type 0
-There [] x = ⊥
-There (y ∷ ys) x = (y ≡ x) ⊎ There ys x
-
-pub there_of : {X : Type 0} (xs : List X) (x : X) → Contains xs x → There xs x
-there_of {X} xs x c = at xs c.0 c.1 c.2
-  where
-    at : (ys : List X) (k : ℕ) → k < length ys → slice_index_or ys k x ≡ x → There ys x
-    at [] k lt same = absurd (omega (arith, lt))
-    at (y ∷ ys) zero lt same = inl same
-    at (y ∷ ys) (suc k) lt same = inr (at ys k (omega (arith, lt)) same)
-
-pub contains_of : {X : Type 0} (xs : List X) (x : X) → There xs x → Contains xs x
-contains_of [] x h = absurd h
-contains_of (y ∷ ys) x (inl same) = (0, omega arith, same)
-contains_of (y ∷ ys) x (inr h) =
-    let c = contains_of ys x h in
-    let within = c.1 in
-    (suc c.0, omega (arith, within), c.2)
-
-pub found_there : {X : Type 0} (p : X → Bool) (xs : List X) (x : X) → find p xs ≡ Some x → There xs x
-found_there p [] x is = absurd (cc)
-found_there {X} p (y ∷ ys) x is = go (λ f. found_there p ys x f) (p y) is
-  where
-    go : (find p ys ≡ Some x → There ys x) → (b : Bool) → cond b (Some y) (find p ys) ≡ Some x → There (y ∷ ys) x
-    go ih true f = inl (some_same y x f)
-    go ih false f = inr (ih f)
-
 -- ---- what is seen of each entry
-
-pub there_seen : {X Y : Type 0} (f : X → Y) (xs : List X) (x : X) → There xs x → There (map f xs) (f x)
-there_seen f [] x h = absurd h
-there_seen f (y ∷ ys) x (inl same) = inl (ap f same)
-there_seen f (y ∷ ys) x (inr h) = inr (there_seen f ys x h)
-
-pub seen_there : {X Y : Type 0} (f : X → Y) (xs : List X) (y : Y) → There (map f xs) y → (x : X) × There xs x
-    × (f x ≡ y)
-seen_there f [] y h = absurd h
-seen_there f (x ∷ xs) y (inl same) = (x, inl refl, same)
-seen_there f (x ∷ xs) y (inr h) =
-    let more = seen_there f xs y h in
-    (more.0, inr more.1, more.2)
 
 pub found_seen : {X Y : Type 0} (f : X → Y) (p : Y → Bool) (xs : List X) (x : X) → find (λ y. p (f y)) xs ≡ Some x
     → find p (map f xs) ≡ Some (f x)

@@ -6,6 +6,7 @@ use Rattle.std.specs.List.{AllByRecursion}
 use Rattle.std.proofs.lemmas.Bool.{eqb-true}
 use Rattle.at_ddp.specs.declared.address.Address.{Address}
 use Rattle.at_ddp.proofs.Alls.{found_passes}
+use Rattle.at_ddp.proofs.MemberLemmas.{contains_of, found_there, there_seen}
 use Rattle.at_adsp.proofs.StreamSegments.{change_by_one}
 use Rattle.at_adsp_end.specs.Calls.{reading}
 use Rattle.at_adsp_end.specs.Ends.{EndState, has_opened}
@@ -26,7 +27,7 @@ use Rattle.at_adsp.proofs.Finds.{some_same}
 use Rattle.at_adsp.proofs.Growth.{found_born}
 use Rattle.at_adsp.proofs.Histories.{are_paired, history_sound}
 use Rattle.at_adsp.proofs.Meets.{paired_newest, stream_of}
-use Rattle.at_adsp.proofs.Members.{contains_of, found_seen, found_there, seen_found, there_seen}
+use Rattle.at_adsp.proofs.Members.{found_seen, seen_found}
 use Rattle.at_adsp.proofs.OurHistories.{asked_ours}
 use Rattle.at_adsp.proofs.Sound.{Sound}
 
@@ -173,6 +174,6 @@ module _ (setting : Setting) (history : List Happening) (at : Address) (id count
     has = pair.2.connected.peer;
     made = contains_of (streams n) peer.stream
         (there_seen stream_of n.made peer
-        (found_there (is_end peer.stream.owner peer.stream.id) n.made peer pair.2.paired.peer_newest));
+        (found_there (is_end peer.stream.owner peer.stream.id) n.made peer pair.2.paired.peer_newest).0);
     reads = comes;
   }

@@ -5,6 +5,7 @@ pub mod DistinctLemmas
 pub mod EqualLemmas
 pub mod FoundLemmas
 mod MarkLemmas
+pub mod MemberLemmas
 pub mod NumberLemmas
 pub mod Octets
 pub mod OutboxLemmas

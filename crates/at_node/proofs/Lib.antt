@@ -5,7 +5,6 @@ mod NumberLemmas
 mod DrawLemmas
 mod Drawn
 mod ListedTimers
-mod MemberLemmas
 mod NameLemmas
 mod OnceLists
 mod ReleaseLaws

@@ -17,7 +17,7 @@ use Rattle.at_nbp.specs.Lookups.{Search, has_id}
 use Rattle.at_node.specs.Nodes.{NodeState, timed}
 use Rattle.at_zone_socket.specs.AtpTimers.{records_at}
 use Rattle.at_node.specs.Timers.{Acts, lookup_of, lookups, releases, retries, retry_of, ticks, timers_of}
-use Rattle.at_node.proofs.MemberLemmas.{There, there_seen, found_there, there_left, there_right, there_either}
+use Rattle.at_ddp.proofs.MemberLemmas.{There, there_seen, found_there, there_left, there_right, there_either}
 use Rattle.at_node.proofs.ReleaseLaws.{CanGo, acts_release, can_go_listed, listed_can_go, release_acts_6}
 use Rattle.at_node.proofs.ReleaseLaws.{release_acts_129}
 use Rattle.at_node.proofs.TickLaws.{acts_tick, tick_listed, ticks_act}

@@ -26,7 +26,7 @@ use Rattle.at_node.specs.Limits.{IsWithin}
 use Rattle.at_node.specs.Nodes.{NodeState}
 use Rattle.at_node.specs.Timers.{lookup_of, lookups, release_of, releases, retries, retry_of, ticks, timer_of}
 use Rattle.at_node.specs.Timers.{timers_of}
-use Rattle.at_node.proofs.MemberLemmas.{There, seen_there, some_there, there_either}
+use Rattle.at_ddp.proofs.MemberLemmas.{There, seen_there, some_there, there_either}
 use Rattle.at_node.proofs.ReleaseLaws.{itself}
 
 -- ---- lists whose entries differ

@@ -17,7 +17,7 @@ use Rattle.at_event.specs.declared.transactions.TransactionTimer.TheVariants as 
 use Rattle.at_node.specs.Nodes.{NodeState, timed, with_atp}
 use Rattle.at_zone_socket.specs.AtpTimers.{expired, records_at}
 use Rattle.at_node.specs.Timers.{Acts, release_of, releases}
-use Rattle.at_node.proofs.MemberLemmas.{There, there_some, some_there, found_there, sole_seen, without_differs}
+use Rattle.at_ddp.proofs.MemberLemmas.{There, there_some, some_there, found_there, sole_seen, without_differs}
 
 -- a record that can expire is found under this key
 abbrev pub CanGo : List Record → Key → Type 0

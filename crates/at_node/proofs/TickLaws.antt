@@ -25,8 +25,8 @@ use Rattle.at_event.specs.Outcomes.{over}
 use Rattle.at_event.specs.declared.Timer.{Timer}
 use Rattle.at_node.specs.Nodes.{NodeState, timed, with_streams}
 use Rattle.at_node.specs.Timers.{Acts, ticks, timer_of}
-use Rattle.at_node.proofs.MemberLemmas.{There, there_some, some_there, found_there, sole_found, without_differs}
-use Rattle.at_node.proofs.MemberLemmas.{replaced_at, replaced_same}
+use Rattle.at_ddp.proofs.MemberLemmas.{There, there_some, some_there, found_there, sole_found, without_differs}
+use Rattle.at_ddp.proofs.MemberLemmas.{replaced_at, replaced_same}
 use Rattle.at_stream_socket.specs.Calls.{called, tick_fired}
 use Rattle.at_stream_socket.specs.Sockets.{sent_of, told_by}
 

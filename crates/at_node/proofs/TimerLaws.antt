@@ -16,7 +16,7 @@ use Rattle.at_node.specs.Nodes.{NodeState, timed, with_atp, with_names}
 use Rattle.at_zone_socket.specs.AtpTimers.{retry_fired}
 use Rattle.at_node.specs.Timers.{Acts, lookup_of, lookups, retries, retry_of}
 use Rattle.at_zone_socket.specs.ZoneReading.{after_failing, is_reading}
-use Rattle.at_node.proofs.MemberLemmas.{There, seen_there, there_found, without_differs}
+use Rattle.at_ddp.proofs.MemberLemmas.{There, seen_there, there_found, without_differs}
 
 -- ---- retries
 

@@ -1,6 +1,6 @@
 use Rattle.at_node.specs.Timers.{timers_of}
 use Rattle.at_node.proofs.ListedTimers.{acts_listed, listed_acts}
-use Rattle.at_node.proofs.MemberLemmas.{contains_of, there_of}
+use Rattle.at_ddp.proofs.MemberLemmas.{contains_of, there_of}
 use Rattle.at_node.proofs.node.Node.timers_act.Goals as goal
 
 pub returns : goal.returns
