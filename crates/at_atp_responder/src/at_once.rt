@@ -1,9 +1,9 @@
 //! Requests that are answered as they come. An at-least-once request loses its record with its answer, so it needs none
 //! then.
-ghost use Rattle.std.specs.Prelude.{◌≡◌, ◌≤◌, [], true, false, None, find, length, IfOk, IfSome, IsSome, OnErr, OnOk};
+ghost use Rattle.std.specs.Prelude.{◌≡◌, ◌≤◌, [], true, false, None, Some, find, length, IfOk, IfSome, IsSome, OnErr, OnOk};
 ghost use Rattle.at_ddp.specs.Outbox.{Sends};
 ghost use Rattle.at_atp_frame.specs.Frames.{content, spelled_all};
-ghost use Rattle.at_atp_responder.specs.AtOnce.{taken_new};
+ghost use Rattle.at_atp_responder.specs.AtOnce.{at_least_once, taken_new};
 ghost use Rattle.at_atp_responder.specs.Records.{finds_no_place, fit, is_key, is_new_and_full, responses, received};
 
 use crate::reception::{Key, NewRequest};
@@ -21,6 +21,9 @@ impl<A: Allocator + Copy> Responder<A> {
             ≡ taken_new self.now request) }
         ensures apart { IfSome result (λ request. find (is_key request.key) self.now ≡ None) }
         ensures place { IsSome result → finds_no_place self.now from (content frame.now) ≡ false }
+        ensures asked { IfSome result (λ request. at_least_once from (content frame.now) ≡ Some request) }
+        ensures none { result ≡ None → IfSome (at_least_once from (content frame.now)) (λ request.
+            find (is_key request.key) self.now ≡ None → is_new_and_full self.now request.key ≡ true) }
     {
         let Frame::Request {
             mask: bitmap,
@@ -42,6 +45,7 @@ impl<A: Allocator + Copy> Responder<A> {
     fn finds_place(&self, key: Key) -> bool
         ensures new { result ≡ true → find (is_key key) self.now ≡ None }
         ensures place { result ≡ true → is_new_and_full self.now key ≡ false }
+        ensures none { result ≡ false → find (is_key key) self.now ≡ None → is_new_and_full self.now key ≡ true }
     {
         count(&self.records) < RECORDS && !self.holds(key)
     }

@@ -57,8 +57,8 @@ pub fn at_most_eight_packets_are_sent()
         → length (asked_for (find (is_key key) (received rs from f).after) key packets) ≤ 8 }
 {}
 
-/// A request that is answered at once is sent what it would have been sent if it had waited. It leaves the records as it
-/// would have left them then.
+/// A request that is answered at once is sent what it would have been sent if it had waited. It leaves the records as
+/// it would have left them then.
 pub fn an_answer_at_once_leaves_no_record()
     ensures asked { (rs : List Record) (request : NewRequest) (packets : List Packet)
         → find (is_key request.key) rs ≡ None
