@@ -30,35 +30,18 @@ pub mod safety;
 pub mod sessions;
 pub mod streams;
 
-/// A call of ATP or ZIP is one happening among requesters and responders, if no responder holds the number that it
-/// draws.
-pub fn a_call_is_a_happening_of_atp<A: Allocator>()
-    ensures { (history : List Happening) (n : NodeState) (call : Call A) → Stands A history n.seat.net n.seat.number n
-        → IsCall call → is_atp (speaker_of_call call) ≡ true
+/// An event of ATP or ZIP is one happening among requesters and responders, if no responder holds the number that it
+/// makes the node draw: a call, a timer that fires, or a packet in time that comes to a node whose service answers later.
+pub fn an_event_is_a_happening_of_atp<A: Allocator>()
+    ensures call { (history : List Happening) (n : NodeState) (call : Call A)
+        → Stands A history n.seat.net n.seat.number n → IsCall call → is_atp (speaker_of_call call) ≡ true
         → ((tid : ℕ) → drawn_by (called n call).report ≡ Some (Tid tid)
         → NoneHolds (after A history).responders (asking n.seat.net n.seat.number) tid)
         → IsHappening A history n.seat.net n.seat.number n (Calls call) (called n call) }
-{
-    at_atp::laws::responses_are_answers::<A>();
-    at_atp::laws::numbers_stay_open::<A>();
-    at_atp::laws::no_more_is_sent_than_answered();
-    at_zip::laws::names_without_a_fault_are_a_table();
-    at_zip::laws::tables_stay_tables();
-}
-
-/// A timer of ATP or ZIP that fires is one happening among requesters and responders.
-pub fn a_timer_is_a_happening_of_atp<A: Allocator>()
-    ensures { (history : List Happening) (n : NodeState) (time : Timer) → Stands A history n.seat.net n.seat.number n
-        → is_atp (speaker_of_timer time) ≡ true
+    ensures timer { (history : List Happening) (n : NodeState) (time : Timer)
+        → Stands A history n.seat.net n.seat.number n → is_atp (speaker_of_timer time) ≡ true
         → IsHappening A history n.seat.net n.seat.number n (Fires time) (timed n time) }
-{
-    at_atp::laws::numbers_stay_open::<A>();
-}
-
-/// A packet in time that comes to a node is one happening among requesters and responders, if the service answers
-/// later, and if no responder holds the number that it makes the node draw.
-pub fn a_packet_is_a_happening_of_atp<A: Allocator>()
-    ensures { (history : List Happening) (n : NodeState) (datagram : ℕ) (s : Sent) (said : Reply A)
+    ensures packet { (history : List Happening) (n : NodeState) (datagram : ℕ) (s : Sent) (said : Reply A)
         (o : Outcome A NodeState) → Stands A history n.seat.net n.seat.number n
         → packet_at (after A history).sent datagram ≡ Some s → is_fresh (after A history).drawn s ≡ true
         → ((tid : ℕ) → drawn_by o.report ≡ Some (Tid tid)
@@ -75,17 +58,13 @@ pub fn a_packet_is_a_happening_of_atp<A: Allocator>()
     at_atp::laws::an_end_is_answered_by_nothing::<A>();
     at_node::laws::what_is_sent_is_heard::<A>();
     at_zip::laws::a_page_fits_one_packet();
+    at_zip::laws::names_without_a_fault_are_a_table();
+    at_zip::laws::tables_stay_tables();
 }
 
-/// A step of another protocol is one happening among requesters and responders, which leaves transactions as they were.
-pub fn another_protocols_step_passes_atp<A: Allocator>()
-    ensures { (history : List Happening) (n : NodeState) (act : Act A) (o : Outcome A NodeState)
-        → Stands A history n.seat.net n.seat.number n → IsForeign n act o
-        → Passes A history n.seat.net n.seat.number n act o }
-{}
-
-/// An event of another protocol leaves the part of ATP and ZIP as it was, and sends no packet of that part.
-pub fn another_protocols_event_is_foreign<A: Allocator>()
+/// An event of another protocol leaves the part of ATP and ZIP as it was, and sends no packet of that part. Such a step
+/// is one happening among requesters and responders, which leaves transactions as they were.
+pub fn another_protocols_event_passes_atp<A: Allocator>()
     ensures call { (n : NodeState) (call : Call A) → is_atp (speaker_of_call call) ≡ false
         → IsForeign n (Calls call) (called n call) }
     ensures timer { (n : NodeState) (time : Timer) → is_atp (speaker_of_timer time) ≡ false
@@ -93,6 +72,9 @@ pub fn another_protocols_event_is_foreign<A: Allocator>()
     ensures datagram { (n : NodeState) (datagram : ℕ) (to from : Address) (kind : ℕ) (bytes : List ℕ) (said : Reply A)
         (o : Outcome A NodeState) → (kind == atp_kind) ≡ false → Hears said n (canonical to from kind bytes) o
         → IsForeign n (Gets datagram) o }
+    ensures passes { (history : List Happening) (n : NodeState) (act : Act A) (o : Outcome A NodeState)
+        → Stands A history n.seat.net n.seat.number n → IsForeign n act o
+        → Passes A history n.seat.net n.seat.number n act o }
 {
     at_ddp::laws::the_protocol_is_read_as_written();
 }

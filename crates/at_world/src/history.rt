@@ -22,24 +22,15 @@ pub(crate) fn steps_make_a_history<A: Allocator>()
         → HasAgreeingRun s events reports w
         × ((history : List Happening) × IsHistory s.net (tables_of s) events reports w.sent history) }
 {
-    at_steps::laws::a_call_is_a_happening_of_atp::<A>();
-    at_steps::laws::a_timer_is_a_happening_of_atp::<A>();
-    at_steps::laws::a_packet_is_a_happening_of_atp::<A>();
-    at_steps::laws::another_protocols_step_passes_atp::<A>();
-    at_steps::laws::another_protocols_event_is_foreign::<A>();
+    at_steps::laws::an_event_is_a_happening_of_atp::<A>();
+    at_steps::laws::another_protocols_event_passes_atp::<A>();
     at_steps::laws::a_number_that_is_not_held_has_no_record();
     at_steps::laws::sessions::an_event_is_a_step_of_the_session::<A>();
-    at_steps::laws::names::a_call_is_a_happening::<A>();
-    at_steps::laws::names::a_timer_is_a_happening::<A>();
-    at_steps::laws::names::a_packet_is_a_happening::<A>();
-    at_steps::laws::names::another_protocols_step_passes::<A>();
-    at_steps::laws::names::another_protocols_event_is_foreign::<A>();
+    at_steps::laws::names::an_event_is_a_happening::<A>();
+    at_steps::laws::names::another_protocols_event_passes::<A>();
     at_steps::laws::names::a_reply_carries_its_identifier();
-    at_steps::laws::streams::a_call_is_a_happening::<A>();
-    at_steps::laws::streams::a_timer_is_a_happening::<A>();
-    at_steps::laws::streams::a_packet_is_a_happening::<A>();
-    at_steps::laws::streams::another_protocols_step_passes::<A>();
-    at_steps::laws::streams::another_protocols_event_is_foreign::<A>();
+    at_steps::laws::streams::an_event_is_a_happening::<A>();
+    at_steps::laws::streams::another_protocols_event_passes::<A>();
     at_steps::laws::streams::a_segment_carries_its_identifiers();
     at_steps::laws::streams::an_identifier_that_is_not_held_has_no_end();
     at_steps::laws::streams::what_is_read_reads_from_a_peer::<A>();

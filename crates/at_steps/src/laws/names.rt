@@ -23,33 +23,17 @@ ghost use Rattle.at_steps.specs.NameHappenings.{Happens, IsForeign, IsHappening,
 
 use std::alloc::Allocator;
 
-/// A call of NBP is one happening among names and lookups.
-pub fn a_call_is_a_happening<A: Allocator>()
-    ensures { (setting : Setting) (history : List Happening) (n : NodeState) (call : Call A)
+/// An event of NBP is one happening among names and lookups: a call, a timer that fires, or a packet that comes to a
+/// node. A reply has to come in time.
+pub fn an_event_is_a_happening<A: Allocator>()
+    ensures call { (setting : Setting) (history : List Happening) (n : NodeState) (call : Call A)
         → Stands setting history n.seat.net n.seat.number n → IsCall call → is_nbp (speaker_of_call call) ≡ true
         → IsHappening setting history n.seat.net n.seat.number n (Calls call) (called n call) }
-{
-    at_nbp::laws::finds_stood_since_their_lookup_began();
-    at_nbp::laws::a_table_with_one_name_more_is_computed();
-    at_name_socket::laws::a_call_is_a_happening::<A>();
-    at_name_socket::laws::a_packet_is_a_happening();
-}
-
-/// A timer of NBP that fires is one happening among names and lookups.
-pub fn a_timer_is_a_happening<A: Allocator>()
-    ensures { (setting : Setting) (history : List Happening) (n : NodeState) (time : Timer)
+    ensures timer { (setting : Setting) (history : List Happening) (n : NodeState) (time : Timer)
         → Stands setting history n.seat.net n.seat.number n → is_nbp (speaker_of_timer time) ≡ true
         → IsHappening {A = A} setting history n.seat.net n.seat.number n (Fires time) (timed n time) }
-{
-    at_nbp::laws::finds_stood_since_their_lookup_began();
-    at_name_socket::laws::a_call_is_a_happening::<A>();
-    at_name_socket::laws::a_packet_is_a_happening();
-}
-
-/// A packet that comes to a node is one happening among names and lookups. A reply has to come in time.
-pub fn a_packet_is_a_happening<A: Allocator>()
-    ensures { (setting : Setting) (history : List Happening) (n : NodeState) (datagram : ℕ) (s : Sent) (said : Reply A)
-        (o : Outcome A NodeState) → Stands setting history n.seat.net n.seat.number n
+    ensures packet { (setting : Setting) (history : List Happening) (n : NodeState) (datagram : ℕ) (s : Sent)
+        (said : Reply A) (o : Outcome A NodeState) → Stands setting history n.seat.net n.seat.number n
         → packet_at (after setting history).sent datagram ≡ Some s
         → (s.packet.function ≡ function.Reply → is_fresh (after setting history).begun s ≡ true)
         → Hears said n (canonical s.to s.from nbp_kind (spelling s.packet)) o
@@ -60,18 +44,14 @@ pub fn a_packet_is_a_happening<A: Allocator>()
     at_nbp::laws::one_packet_a_spelling();
     at_nbp::laws::what_is_sent_is_lawful();
     at_nbp::laws::finds_stood_since_their_lookup_began();
+    at_nbp::laws::a_table_with_one_name_more_is_computed();
+    at_name_socket::laws::a_call_is_a_happening::<A>();
     at_name_socket::laws::a_packet_is_a_happening();
 }
 
-/// A step of another protocol is one happening among names and lookups, which leaves them as they were.
-pub fn another_protocols_step_passes<A: Allocator>()
-    ensures { (setting : Setting) (history : List Happening) (n : NodeState) (act : Act A) (o : Outcome A NodeState)
-        → Stands setting history n.seat.net n.seat.number n → IsForeign n act o
-        → Happens setting history n.seat.net n.seat.number n act o }
-{}
-
-/// An event of another protocol leaves the socket for names as it was, and sends no packet of NBP.
-pub fn another_protocols_event_is_foreign<A: Allocator>()
+/// An event of another protocol leaves the socket for names as it was, and sends no packet of NBP. Such a step is one
+/// happening among names and lookups, which leaves them as they were.
+pub fn another_protocols_event_passes<A: Allocator>()
     ensures call { (n : NodeState) (call : Call A) → is_nbp (speaker_of_call call) ≡ false
         → IsForeign n (Calls call) (called n call) }
     ensures timer { (n : NodeState) (time : Timer) → is_nbp (speaker_of_timer time) ≡ false
@@ -79,6 +59,9 @@ pub fn another_protocols_event_is_foreign<A: Allocator>()
     ensures datagram { (n : NodeState) (datagram : ℕ) (to from : Address) (kind : ℕ) (bytes : List ℕ) (said : Reply A)
         (o : Outcome A NodeState) → (kind == nbp_kind) ≡ false → Hears said n (canonical to from kind bytes) o
         → IsForeign n (Gets datagram) o }
+    ensures passes { (setting : Setting) (history : List Happening) (n : NodeState) (act : Act A)
+        (o : Outcome A NodeState) → Stands setting history n.seat.net n.seat.number n → IsForeign n act o
+        → Happens setting history n.seat.net n.seat.number n act o }
 {
     at_ddp::laws::the_protocol_is_read_as_written();
 }

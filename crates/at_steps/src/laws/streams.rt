@@ -33,33 +33,19 @@ ghost use Rattle.at_steps.specs.StreamHappenings.{IsForeign, IsHappening, Passes
 
 use std::alloc::Allocator;
 
-/// A call of ADSP is one happening among ends of streams, if no end has the identifier that it draws as its remote.
-pub fn a_call_is_a_happening<A: Allocator>()
-    ensures { (setting : Setting) (history : List Happening) (n : NodeState) (call : Call A)
+/// An event of ADSP is one happening among ends of streams, if no end has the identifier that it makes the node draw as
+/// its remote: a call, a timer that fires, or a segment in time that comes to a node.
+pub fn an_event_is_a_happening<A: Allocator>()
+    ensures call { (setting : Setting) (history : List Happening) (n : NodeState) (call : Call A)
         → Stands setting history n.seat.net n.seat.number n → IsCall call → is_adsp (speaker_of_call call) ≡ true
         → ((id : ℕ) → drawn_by (called n call).report ≡ Some (Conn id)
         → NoneNames (after setting history) (streams_at n.seat.net n.seat.number) id)
         → IsHappening setting history n.seat.net n.seat.number n (Calls call) (called n call) }
-{
-    at_adsp::laws::streams_change_by_one();
-    at_adsp::laws::ends_that_are_open_are_paired();
-}
-
-/// A timer of ADSP that fires is one happening among ends of streams.
-pub fn a_timer_is_a_happening<A: Allocator>()
-    ensures { (setting : Setting) (history : List Happening) (n : NodeState) (time : Timer)
+    ensures timer { (setting : Setting) (history : List Happening) (n : NodeState) (time : Timer)
         → Stands setting history n.seat.net n.seat.number n → is_adsp (speaker_of_timer time) ≡ true
         → IsHappening {A = A} setting history n.seat.net n.seat.number n (Fires time) (timed n time) }
-{
-    at_adsp::laws::streams_change_by_one();
-    at_adsp::laws::ends_that_are_open_are_paired();
-}
-
-/// A segment in time that comes to a node is one happening among ends of streams, if no end has the identifier that it
-/// makes the node draw as its remote.
-pub fn a_packet_is_a_happening<A: Allocator>()
-    ensures { (setting : Setting) (history : List Happening) (n : NodeState) (datagram : ℕ) (s : Sent) (said : Reply A)
-        (o : Outcome A NodeState) → Stands setting history n.seat.net n.seat.number n
+    ensures packet { (setting : Setting) (history : List Happening) (n : NodeState) (datagram : ℕ) (s : Sent)
+        (said : Reply A) (o : Outcome A NodeState) → Stands setting history n.seat.net n.seat.number n
         → packet_at (after setting history).sent datagram ≡ Some s → is_fresh (after setting history).made s ≡ true
         → ((id : ℕ) → drawn_by o.report ≡ Some (Conn id)
         → NoneNames (after setting history) (streams_at n.seat.net n.seat.number) id)
@@ -96,15 +82,9 @@ pub fn an_end_that_opened_names_its_peer()
     at_adsp::laws::an_end_that_opened_names_its_peer();
 }
 
-/// A step of another protocol is one happening among ends of streams, which leaves all streams as they were.
-pub fn another_protocols_step_passes<A: Allocator>()
-    ensures { (setting : Setting) (history : List Happening) (n : NodeState) (act : Act A) (o : Outcome A NodeState)
-        → Stands setting history n.seat.net n.seat.number n → IsForeign n act o
-        → Passes setting history n.seat.net n.seat.number n act o }
-{}
-
-/// An event of another protocol leaves the socket for streams as it was, and sends no segment.
-pub fn another_protocols_event_is_foreign<A: Allocator>()
+/// An event of another protocol leaves the socket for streams as it was, and sends no segment. Such a step is one
+/// happening among ends of streams, which leaves all streams as they were.
+pub fn another_protocols_event_passes<A: Allocator>()
     ensures call { (n : NodeState) (call : Call A) → is_adsp (speaker_of_call call) ≡ false
         → IsForeign n (Calls call) (called n call) }
     ensures timer { (n : NodeState) (time : Timer) → is_adsp (speaker_of_timer time) ≡ false
@@ -112,6 +92,9 @@ pub fn another_protocols_event_is_foreign<A: Allocator>()
     ensures datagram { (n : NodeState) (datagram : ℕ) (to from : Address) (kind : ℕ) (bytes : List ℕ) (said : Reply A)
         (o : Outcome A NodeState) → (kind == adsp_kind) ≡ false → Hears said n (canonical to from kind bytes) o
         → IsForeign n (Gets datagram) o }
+    ensures passes { (setting : Setting) (history : List Happening) (n : NodeState) (act : Act A)
+        (o : Outcome A NodeState) → Stands setting history n.seat.net n.seat.number n → IsForeign n act o
+        → Passes setting history n.seat.net n.seat.number n act o }
 {
     at_ddp::laws::the_protocol_is_read_as_written();
 }
