@@ -40,11 +40,6 @@ kinds word ws (call.Names it) said =
 kinds word ws (call.Streams it) said =
     stream_kinds (λ w. SaidBy w ws) ws (λ h. h, λ h. h, λ h. h, λ h. h, λ h. h, λ h. h, λ h. h) word it said
 
--- a reader gives nothing, and the words say no call
-pub no_call : {A : Type 0} (o : Option (Call A)) (word : List ℕ) (ws : List (List ℕ)) → o ≡ None → ¬ SaidBy word ws
-    → IsFound o (SaysPlain word ws)
-no_call o word ws none nothing = rw none (λ c said. nothing (kinds word ws c said))
-
 -- a fault of a reader is told on, unless a growth was refused, and the words say no call
 pub call_told_on : {A S : Type 0} (P : S → Type 0) (q : Result S LineFault) (r : Result (Call A) LineFault)
     (fault : LineFault) (word : List ℕ) (ws : List (List ℕ)) → q ≡ Err fault → r ≡ Err fault → IsFoundInMemory q P

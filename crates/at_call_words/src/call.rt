@@ -7,11 +7,9 @@ ghost use Rattle.at_words.specs.Words.{words_of};
 
 use crate::call::answers::answer;
 use crate::call::asks::ask;
-use crate::call::names::{claim_call, find_call, finish_call, register_call, unregister_call};
-use crate::call::session::pick_call;
-use crate::call::streams::{
-    close_call, connect_call, listen_call, open_call, read_call, reset_call, write,
-};
+use crate::call::names::{claim, find, finish, register, unregister};
+use crate::call::session::pick;
+use crate::call::streams::{close, connect, listen, open, read, reset, write};
 use crate::call::tables::{set_zones, zones};
 use crate::requester::Requesters;
 use at_event::{Call, EventRule, ZoneRule};
@@ -95,43 +93,43 @@ fn said_by<A: Allocator + Copy>(
         return ask(alloc, words);
     }
     if is_word(word, b"pick") {
-        return pick_call(words);
+        return pick(words);
     }
     if is_word(word, b"find") {
-        return find_call(words);
+        return find(words);
     }
     if is_word(word, b"claim") {
-        return claim_call(words);
+        return claim(words);
     }
     if is_word(word, b"finish") {
-        return finish_call(words);
+        return finish(words);
     }
     if is_word(word, b"register") {
-        return register_call(words);
+        return register(words);
     }
     if is_word(word, b"unregister") {
-        return unregister_call(words);
+        return unregister(words);
     }
     if is_word(word, b"open") {
-        return open_call(words);
+        return open(words);
     }
     if is_word(word, b"listen") {
-        return listen_call(words);
+        return listen(words);
     }
     if is_word(word, b"connect") {
-        return connect_call(words);
+        return connect(words);
     }
     if is_word(word, b"write") {
         return write(alloc, words);
     }
     if is_word(word, b"read") {
-        return read_call(words);
+        return read(words);
     }
     if is_word(word, b"reset") {
-        return reset_call(words);
+        return reset(words);
     }
     if is_word(word, b"close") {
-        return close_call(words);
+        return close(words);
     }
     Err(LineFault::Unlawful(Rule::Event(EventRule::Call)))
 }

@@ -16,13 +16,14 @@ use at_words::{Words, byte, node_number, text};
 use std::alloc::Allocator;
 
 /// `TEXT TEXT [TEXT]`
-fn find<A: Allocator>(mut words: Words<'_>) -> Option<Call<A>>
-    ensures { IsFound result (SaysPlain (codes "find") (words_of words.entry.rest.now)) }
+pub(crate) fn find<A: Allocator>(mut words: Words<'_>) -> Result<Call<A>, LineFault>
+    ensures { IsFoundInMemory result (SaysPlain (codes "find") (words_of words.entry.rest.now)) }
 {
-    let object = text(words.next()?)?;
-    let kind = text(words.next()?)?;
-    let zone = zone_of(words)?;
-    Some(Call::Names(NameCall::Find { object, kind, zone }))
+    let fault = broken(NameRule::Find);
+    let object = text(words.next().ok_or(fault)?).ok_or(fault)?;
+    let kind = text(words.next().ok_or(fault)?).ok_or(fault)?;
+    let zone = zone_of(words).ok_or(fault)?;
+    Ok(Call::Names(NameCall::Find { object, kind, zone }))
 }
 
 // The zone that the last word says, if there is one.
@@ -38,11 +39,13 @@ fn zone_of(mut words: Words<'_>) -> Option<Option<Pascal>>
 }
 
 /// `TEXT TEXT SOCKET`
-fn claim<A: Allocator>(words: Words<'_>) -> Option<Call<A>>
-    ensures { IsFound result (SaysPlain (codes "claim") (words_of words.entry.rest.now)) }
+pub(crate) fn claim<A: Allocator>(words: Words<'_>) -> Result<Call<A>, LineFault>
+    ensures { IsFoundInMemory result (SaysPlain (codes "claim") (words_of words.entry.rest.now)) }
 {
-    let (object, kind, socket) = socket_name(words)?;
-    Some(Call::Names(NameCall::Claim {
+    let Some((object, kind, socket)) = socket_name(words) else {
+        return Err(broken(NameRule::Claim));
+    };
+    Ok(Call::Names(NameCall::Claim {
         object,
         kind,
         socket,
@@ -50,19 +53,22 @@ fn claim<A: Allocator>(words: Words<'_>) -> Option<Call<A>>
 }
 
 /// `ID`
-fn finish<A: Allocator>(words: Words<'_>) -> Option<Call<A>>
-    ensures { IsFound result (SaysPlain (codes "finish") (words_of words.entry.rest.now)) }
+pub(crate) fn finish<A: Allocator>(words: Words<'_>) -> Result<Call<A>, LineFault>
+    ensures { IsFoundInMemory result (SaysPlain (codes "finish") (words_of words.entry.rest.now)) }
 {
-    let id = byte(one(words)?)?;
-    Some(Call::Names(NameCall::Finish { id }))
+    let fault = broken(NameRule::Finish);
+    let id = byte(one(words).ok_or(fault)?).ok_or(fault)?;
+    Ok(Call::Names(NameCall::Finish { id }))
 }
 
 /// `TEXT TEXT SOCKET`
-fn register<A: Allocator>(words: Words<'_>) -> Option<Call<A>>
-    ensures { IsFound result (SaysPlain (codes "register") (words_of words.entry.rest.now)) }
+pub(crate) fn register<A: Allocator>(words: Words<'_>) -> Result<Call<A>, LineFault>
+    ensures { IsFoundInMemory result (SaysPlain (codes "register") (words_of words.entry.rest.now)) }
 {
-    let (object, kind, socket) = socket_name(words)?;
-    Some(Call::Names(NameCall::Register {
+    let Some((object, kind, socket)) = socket_name(words) else {
+        return Err(broken(NameRule::Register));
+    };
+    Ok(Call::Names(NameCall::Register {
         object,
         kind,
         socket,
@@ -83,43 +89,14 @@ fn socket_name(words: Words<'_>) -> Option<(Pascal, Pascal, u8)>
 }
 
 /// `TEXT TEXT`
-fn unregister<A: Allocator>(words: Words<'_>) -> Option<Call<A>>
-    ensures { IsFound result (SaysPlain (codes "unregister") (words_of words.entry.rest.now)) }
-{
-    let (object, kind) = two(words)?;
-    let object = text(object)?;
-    let kind = text(kind)?;
-    Some(Call::Names(NameCall::Unregister { object, kind }))
-}
-
-pub(crate) fn find_call<A: Allocator>(words: Words<'_>) -> Result<Call<A>, LineFault>
-    ensures { IsFoundInMemory result (SaysPlain (codes "find") (words_of words.entry.rest.now)) }
-{
-    find(words).ok_or(broken(NameRule::Find))
-}
-
-pub(crate) fn claim_call<A: Allocator>(words: Words<'_>) -> Result<Call<A>, LineFault>
-    ensures { IsFoundInMemory result (SaysPlain (codes "claim") (words_of words.entry.rest.now)) }
-{
-    claim(words).ok_or(broken(NameRule::Claim))
-}
-
-pub(crate) fn finish_call<A: Allocator>(words: Words<'_>) -> Result<Call<A>, LineFault>
-    ensures { IsFoundInMemory result (SaysPlain (codes "finish") (words_of words.entry.rest.now)) }
-{
-    finish(words).ok_or(broken(NameRule::Finish))
-}
-
-pub(crate) fn register_call<A: Allocator>(words: Words<'_>) -> Result<Call<A>, LineFault>
-    ensures { IsFoundInMemory result (SaysPlain (codes "register") (words_of words.entry.rest.now)) }
-{
-    register(words).ok_or(broken(NameRule::Register))
-}
-
-pub(crate) fn unregister_call<A: Allocator>(words: Words<'_>) -> Result<Call<A>, LineFault>
+pub(crate) fn unregister<A: Allocator>(words: Words<'_>) -> Result<Call<A>, LineFault>
     ensures { IsFoundInMemory result (SaysPlain (codes "unregister") (words_of words.entry.rest.now)) }
 {
-    unregister(words).ok_or(broken(NameRule::Unregister))
+    let fault = broken(NameRule::Unregister);
+    let (object, kind) = two(words).ok_or(fault)?;
+    let object = text(object).ok_or(fault)?;
+    let kind = text(kind).ok_or(fault)?;
+    Ok(Call::Names(NameCall::Unregister { object, kind }))
 }
 
 // The fault of words of names that break a rule.

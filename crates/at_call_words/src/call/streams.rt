@@ -14,19 +14,21 @@ use at_words::{Words, node_number, number, two_bytes};
 use std::alloc::Allocator;
 
 /// `I`
-fn open<A: Allocator>(words: Words<'_>) -> Option<Call<A>>
-    ensures { IsFound result (SaysPlain (codes "open") (words_of words.entry.rest.now)) }
+pub(crate) fn open<A: Allocator>(words: Words<'_>) -> Result<Call<A>, LineFault>
+    ensures { IsFoundInMemory result (SaysPlain (codes "open") (words_of words.entry.rest.now)) }
 {
-    let index = number(one(words)?)?;
-    Some(Call::Streams(StreamCall::Open { index }))
+    let fault = broken(StreamRule::Open);
+    let index = number(one(words).ok_or(fault)?).ok_or(fault)?;
+    Ok(Call::Streams(StreamCall::Open { index }))
 }
 
 /// `on` or `off`
-fn listen<A: Allocator>(words: Words<'_>) -> Option<Call<A>>
-    ensures { IsFound result (SaysPlain (codes "listen") (words_of words.entry.rest.now)) }
+pub(crate) fn listen<A: Allocator>(words: Words<'_>) -> Result<Call<A>, LineFault>
+    ensures { IsFoundInMemory result (SaysPlain (codes "listen") (words_of words.entry.rest.now)) }
 {
-    let on = is_on(one(words)?)?;
-    Some(Call::Streams(StreamCall::Listen { on }))
+    let fault = broken(StreamRule::Listen);
+    let on = is_on(one(words).ok_or(fault)?).ok_or(fault)?;
+    Ok(Call::Streams(StreamCall::Listen { on }))
 }
 
 fn is_on(word: &[u8]) -> Option<bool>
@@ -40,13 +42,14 @@ fn is_on(word: &[u8]) -> Option<bool>
 }
 
 /// `NODE SOCKET`
-fn connect<A: Allocator>(words: Words<'_>) -> Option<Call<A>>
-    ensures { IsFound result (SaysPlain (codes "connect") (words_of words.entry.rest.now)) }
+pub(crate) fn connect<A: Allocator>(words: Words<'_>) -> Result<Call<A>, LineFault>
+    ensures { IsFoundInMemory result (SaysPlain (codes "connect") (words_of words.entry.rest.now)) }
 {
-    let (node, socket) = two(words)?;
-    let node = node_number(node)?;
-    let socket = node_number(socket)?;
-    Some(Call::Streams(StreamCall::Connect { node, socket }))
+    let fault = broken(StreamRule::Connect);
+    let (node, socket) = two(words).ok_or(fault)?;
+    let node = node_number(node).ok_or(fault)?;
+    let socket = node_number(socket).ok_or(fault)?;
+    Ok(Call::Streams(StreamCall::Connect { node, socket }))
 }
 
 /// `ID ITEM ..`
@@ -60,63 +63,30 @@ pub(crate) fn write<A: Allocator>(alloc: A, mut words: Words<'_>) -> Result<Call
 }
 
 /// `ID COUNT`
-fn read<A: Allocator>(words: Words<'_>) -> Option<Call<A>>
-    ensures { IsFound result (SaysPlain (codes "read") (words_of words.entry.rest.now)) }
-{
-    let (id, count) = two(words)?;
-    let id = two_bytes(id)?;
-    let count = two_bytes(count)?;
-    Some(Call::Streams(StreamCall::Read { id, count }))
-}
-
-/// `ID`
-fn reset<A: Allocator>(words: Words<'_>) -> Option<Call<A>>
-    ensures { IsFound result (SaysPlain (codes "reset") (words_of words.entry.rest.now)) }
-{
-    let id = two_bytes(one(words)?)?;
-    Some(Call::Streams(StreamCall::Reset { id }))
-}
-
-/// `ID`
-fn close<A: Allocator>(words: Words<'_>) -> Option<Call<A>>
-    ensures { IsFound result (SaysPlain (codes "close") (words_of words.entry.rest.now)) }
-{
-    let id = two_bytes(one(words)?)?;
-    Some(Call::Streams(StreamCall::Close { id }))
-}
-
-pub(crate) fn open_call<A: Allocator>(words: Words<'_>) -> Result<Call<A>, LineFault>
-    ensures { IsFoundInMemory result (SaysPlain (codes "open") (words_of words.entry.rest.now)) }
-{
-    open(words).ok_or(broken(StreamRule::Open))
-}
-
-pub(crate) fn listen_call<A: Allocator>(words: Words<'_>) -> Result<Call<A>, LineFault>
-    ensures { IsFoundInMemory result (SaysPlain (codes "listen") (words_of words.entry.rest.now)) }
-{
-    listen(words).ok_or(broken(StreamRule::Listen))
-}
-
-pub(crate) fn connect_call<A: Allocator>(words: Words<'_>) -> Result<Call<A>, LineFault>
-    ensures { IsFoundInMemory result (SaysPlain (codes "connect") (words_of words.entry.rest.now)) }
-{
-    connect(words).ok_or(broken(StreamRule::Connect))
-}
-
-pub(crate) fn read_call<A: Allocator>(words: Words<'_>) -> Result<Call<A>, LineFault>
+pub(crate) fn read<A: Allocator>(words: Words<'_>) -> Result<Call<A>, LineFault>
     ensures { IsFoundInMemory result (SaysPlain (codes "read") (words_of words.entry.rest.now)) }
 {
-    read(words).ok_or(broken(StreamRule::Read))
+    let fault = broken(StreamRule::Read);
+    let (id, count) = two(words).ok_or(fault)?;
+    let id = two_bytes(id).ok_or(fault)?;
+    let count = two_bytes(count).ok_or(fault)?;
+    Ok(Call::Streams(StreamCall::Read { id, count }))
 }
 
-pub(crate) fn reset_call<A: Allocator>(words: Words<'_>) -> Result<Call<A>, LineFault>
+/// `ID`
+pub(crate) fn reset<A: Allocator>(words: Words<'_>) -> Result<Call<A>, LineFault>
     ensures { IsFoundInMemory result (SaysPlain (codes "reset") (words_of words.entry.rest.now)) }
 {
-    reset(words).ok_or(broken(StreamRule::Reset))
+    let fault = broken(StreamRule::Reset);
+    let id = two_bytes(one(words).ok_or(fault)?).ok_or(fault)?;
+    Ok(Call::Streams(StreamCall::Reset { id }))
 }
 
-pub(crate) fn close_call<A: Allocator>(words: Words<'_>) -> Result<Call<A>, LineFault>
+/// `ID`
+pub(crate) fn close<A: Allocator>(words: Words<'_>) -> Result<Call<A>, LineFault>
     ensures { IsFoundInMemory result (SaysPlain (codes "close") (words_of words.entry.rest.now)) }
 {
-    close(words).ok_or(broken(StreamRule::Close))
+    let fault = broken(StreamRule::Close);
+    let id = two_bytes(one(words).ok_or(fault)?).ok_or(fault)?;
+    Ok(Call::Streams(StreamCall::Close { id }))
 }
