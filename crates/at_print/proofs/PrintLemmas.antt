@@ -107,9 +107,6 @@ flat-asked a b c d e f = simp append_assoc
 flat5 : (a b c d e r : List ℕ) → (a ++ (b ++ (c ++ (d ++ e)))) ++ r ≡ a ++ (b ++ (c ++ (d ++ (e ++ r))))
 flat5 a b c d e r = simp append_assoc
 
-flat6 : (a b c d e f r : List ℕ) → (a ++ (b ++ (c ++ (d ++ (e ++ f))))) ++ r ≡ a ++ (b ++ (c ++ (d ++ (e ++ (f ++ r)))))
-flat6 a b c d e f r = simp append_assoc
-
 flat8 : (a b c d e f g h r : List ℕ) → (a ++ (b ++ (c ++ (d ++ (e ++ (f ++ (g ++ h))))))) ++ r
     ≡ a ++ (b ++ (c ++ (d ++ (e ++ (f ++ (g ++ (h ++ r)))))))
 flat8 a b c d e f g h r = simp append_assoc
@@ -121,12 +118,6 @@ module _ {W : Type 0} (page : W → Page) where
       → Prints page x z (a ++ (b ++ (c ++ (d ++ (e ++ r)))))
   Prints-five x y z a b c d e r p q =
       subst (Prints page x z) (flat5 a b c d e r) (Prints-trans page x y z _ r p q)
-
-  pub Prints-six : (x y z : Printer W) (a b c d e f r : List ℕ)
-      → Prints page x y (a ++ (b ++ (c ++ (d ++ (e ++ f))))) → Prints page y z r
-      → Prints page x z (a ++ (b ++ (c ++ (d ++ (e ++ (f ++ r))))))
-  Prints-six x y z a b c d e f r p q =
-      subst (Prints page x z) (flat6 a b c d e f r) (Prints-trans page x y z _ r p q)
 
   pub Prints-eight : (x y z : Printer W) (a b c d e f g h r : List ℕ)
       → Prints page x y (a ++ (b ++ (c ++ (d ++ (e ++ (f ++ (g ++ h))))))) → Prints page y z r
@@ -149,30 +140,36 @@ module _ {W : Type 0} (page : W → Page) where
       Prints-five a b h (codes "ddp length ") _ (codes " hops ") _ (codes " sum ") _ p1
       (Prints-trans page b c h _ _ p2 sender)
 
-  -- a request's line is printed in four parts, and a response's in two
-  pub request_prints : (a b c d e : Printer W) (mask : ℕ) (xo : Bool) (one timer tid : ℕ) (user bytes : List ℕ) → one
-      ≡ from_bool xo
+  -- the header of a request is printed in three parts
+  pub request_prints : (a b c d : Printer W) (mask : ℕ) (xo : Bool) (one timer tid : ℕ) → one ≡ from_bool xo
       → Prints page a b (codes "atp request mask ") → Prints page b c (pairs (mask ∷ []))
       → Prints page c d (codes " xo "
       ++ (decimal one ++ (codes " timer " ++ (decimal timer ++ (codes " id " ++ decimal tid)))))
-      → Prints page d e (concat (parts user bytes))
-      → Prints page a e (packet_line (Request mask xo timer tid user bytes))
-  request_prints a b c d e mask xo one timer tid user bytes is p1 p2 p3 p4 =
-      let fields = rw is at p3 in
-      let end = Prints-six c d e (codes " xo ") _ (codes " timer ") _ (codes " id ") _ _ fields p4 in
-      Prints-trans page a b e _ _ p1 (Prints-trans page b c e _ _ p2 end)
+      → Prints page a d (codes "atp request mask "
+      ++ (pairs (mask ∷ []) ++ (codes " xo "
+      ++ (decimal (from_bool xo) ++ (codes " timer " ++ (decimal timer ++ (codes " id " ++ decimal tid)))))))
+  request_prints a b c d mask xo one timer tid is p1 p2 p3 =
+      Prints-trans page a b d _ _ p1 (Prints-trans page b c d _ _ p2 (rw is at p3))
 
-  pub response_prints : (a b c : Printer W) (place : ℕ) (eom sts : Bool) (last asks tid : ℕ) (user bytes : List ℕ)
-      → last ≡ from_bool eom → asks ≡ from_bool sts
+  -- the line of a packet is its header and its parts
+  pub request_line : (a b c : Printer W) (mask : ℕ) (xo : Bool) (timer tid : ℕ) (user bytes : List ℕ)
+      → Prints page a b (codes "atp request mask "
+      ++ (pairs (mask ∷ []) ++ (codes " xo "
+      ++ (decimal (from_bool xo) ++ (codes " timer " ++ (decimal timer ++ (codes " id " ++ decimal tid)))))))
+      → Prints page b c (concat (parts user bytes))
+      → Prints page a c (packet_line (Request mask xo timer tid user bytes))
+  request_line a b c mask xo timer tid user bytes p1 p2 =
+      Prints-eight a b c (codes "atp request mask ") (pairs (mask ∷ [])) (codes " xo ") (decimal (from_bool xo))
+      (codes " timer ") (decimal timer) (codes " id ") (decimal tid) _ p1 p2
+
+  pub response_line : (a b c : Printer W) (place : ℕ) (eom sts : Bool) (tid : ℕ) (user bytes : List ℕ)
       → Prints page a b (codes "atp response place "
       ++ (decimal place ++ (codes " eom "
-      ++ (decimal last ++ (codes " sts " ++ (decimal asks ++ (codes " id " ++ decimal tid)))))))
+      ++ (decimal (from_bool eom) ++ (codes " sts " ++ (decimal (from_bool sts) ++ (codes " id " ++ decimal tid)))))))
       → Prints page b c (concat (parts user bytes))
       → Prints page a c (packet_line (Response place eom sts tid user bytes))
-  response_prints a b c place eom sts last asks tid user bytes is also p1 p2 =
-      let fields = rw (is, also) at p1 in
-      Prints-eight a b c (codes "atp response place ") _ (codes " eom ") _ (codes " sts ") _
-      (codes " id ") _ _ fields p2
+  response_line a b c place eom sts tid user bytes p1 p2 =
+      Prints-eight a b c (codes "atp response place ") _ (codes " eom ") _ (codes " sts ") _ (codes " id ") _ _ p1 p2
 
 -- the text of parts is that of each of them
 followed_by : (text : List ℕ) (ps : List Part) → followed text ps ≡ text ++ flat_map part_text ps

@@ -55,8 +55,8 @@ abbrev pub datagram_line : ℕ → ℕ → List ℕ → List ℕ
 datagram_line number to bytes =
     (codes "sent " ++ (decimal number ++ (codes " " ++ (decimal to ++ codes " ")))) ++ (hex_text bytes ++ codes "\n")
 
--- the data of a datagram of this type can be read; of the protocols that are read, NBP is number 2, ATP 3 and ADSP 7, and
--- the data of any other is printed as it is
+-- The data of a datagram of this type can be read. NBP is number 2, ATP 3 and ADSP 7; the data of any other type is
+-- printed as it is.
 abbrev pub IsReadable : ℕ → List ℕ → Type 0
 IsReadable kind bytes =
     MatchBool (kind == 2) (IsNames bytes)

@@ -1,8 +1,11 @@
 //! How datagrams and packets print, a line each.
+ghost use Rattle.std.specs.Prelude.{◌++◌, ◌∷◌, [], codes};
+ghost use Rattle.std.specs.Fmt.{decimal};
+ghost use Rattle.std.specs.Int.{from_bool};
 ghost use Rattle.std.specs.List.{concat};
-ghost use Rattle.at_atp_frame.specs.Frames.{content as packet_of};
+ghost use Rattle.at_atp_frame.specs.Frames.{content as packet_of, Release};
 ghost use Rattle.at_ddp.specs.Datagram.{content};
-ghost use Rattle.at_print.specs.Lines.{address_text, header_line, packet_line, parts, raw_line, sum_text};
+ghost use Rattle.at_print.specs.Lines.{address_text, header_line, packet_line, pairs, parts, raw_line, sum_text};
 ghost use Rattle.at_print.specs.Printers.{Prints};
 
 use crate::digits::write_hex;
@@ -83,16 +86,7 @@ pub(crate) fn write_frame<W: Paper>(printer: &mut Printer<W>, frame: &Frame<'_>)
             user,
             data_,
         } => {
-            printer.write_all(b"atp request mask ");
-            write_hex(printer, &[*mask]);
-            printer.write_each(&[
-                Part::Text(b" xo "),
-                Part::Number(u64::from(*xo)),
-                Part::Text(b" timer "),
-                Part::Number(*timer as u64),
-                Part::Text(b" id "),
-                Part::Number(*tid as u64),
-            ]);
+            write_request(printer, *mask, *xo, *timer, *tid);
             write_parts(printer, *user, data_);
         }
         Frame::Response {
@@ -103,24 +97,58 @@ pub(crate) fn write_frame<W: Paper>(printer: &mut Printer<W>, frame: &Frame<'_>)
             user,
             data_,
         } => {
-            printer.write_each(&[
-                Part::Text(b"atp response place "),
-                Part::Number(*sequence_number as u64),
-                Part::Text(b" eom "),
-                Part::Number(u64::from(*eom)),
-                Part::Text(b" sts "),
-                Part::Number(u64::from(*sts)),
-                Part::Text(b" id "),
-                Part::Number(*tid as u64),
-            ]);
+            write_response(printer, *sequence_number, *eom, *sts, *tid);
             write_parts(printer, *user, data_);
         }
-        Frame::Release { tid } => printer.write_each(&[
-            Part::Text(b"atp release id "),
-            Part::Number(*tid as u64),
-            Part::Text(b"\n"),
-        ]),
+        Frame::Release { tid } => write_release(printer, *tid),
     }
+}
+
+// The header of a request.
+fn write_request<W: Paper>(printer: &mut Printer<W>, mask: u8, xo: bool, timer: u8, tid: u16)
+    ensures { Prints W.page printer.old printer.new (codes "atp request mask "
+        ++ (pairs (mask ∷ []) ++ (codes " xo " ++ (decimal (from_bool xo)
+        ++ (codes " timer " ++ (decimal timer ++ (codes " id " ++ decimal tid))))))) }
+{
+    printer.write_all(b"atp request mask ");
+    write_hex(printer, &[mask]);
+    printer.write_each(&[
+        Part::Text(b" xo "),
+        Part::Number(u64::from(xo)),
+        Part::Text(b" timer "),
+        Part::Number(timer as u64),
+        Part::Text(b" id "),
+        Part::Number(tid as u64),
+    ]);
+}
+
+// The header of a response.
+fn write_response<W: Paper>(printer: &mut Printer<W>, place: u8, eom: bool, sts: bool, tid: u16)
+    ensures { Prints W.page printer.old printer.new (codes "atp response place "
+        ++ (decimal place ++ (codes " eom " ++ (decimal (from_bool eom)
+        ++ (codes " sts " ++ (decimal (from_bool sts) ++ (codes " id " ++ decimal tid))))))) }
+{
+    printer.write_each(&[
+        Part::Text(b"atp response place "),
+        Part::Number(place as u64),
+        Part::Text(b" eom "),
+        Part::Number(u64::from(eom)),
+        Part::Text(b" sts "),
+        Part::Number(u64::from(sts)),
+        Part::Text(b" id "),
+        Part::Number(tid as u64),
+    ]);
+}
+
+// The line of a release.
+fn write_release<W: Paper>(printer: &mut Printer<W>, tid: u16)
+    ensures { Prints W.page printer.old printer.new (packet_line (Release tid)) }
+{
+    printer.write_each(&[
+        Part::Text(b"atp release id "),
+        Part::Number(tid as u64),
+        Part::Text(b"\n"),
+    ]);
 }
 
 // The user bytes and the data, at the end of a packet's line.
