@@ -5,7 +5,7 @@ ghost use Rattle.at_drive.specs.Logs.{HasRoom, news_of, with_report};
 
 use crate::arrival::Arrival;
 use at_ddp::Datagrams;
-use at_node::Report;
+use at_event::Report;
 use std::alloc::{AllocError, Allocator, Global};
 use std::mem;
 

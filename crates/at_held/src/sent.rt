@@ -6,7 +6,8 @@ ghost use Rattle.at_node.specs.Limits.{IsWithin};
 ghost use Rattle.at_nodes.specs.Taking.{Takes};
 
 use at_ddp::Datagrams;
-use at_node::{Input, Node, Report};
+use at_event::Report;
+use at_node::{Input, Node};
 use at_nodes::take;
 use std::alloc::Global;
 use std::marker::Model;

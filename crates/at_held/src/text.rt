@@ -2,8 +2,7 @@
 ghost use Rattle.std.specs.Prelude.{◌≡◌, IfOk};
 ghost use Rattle.at_print.specs.Reports.{event_line_at};
 
-use at_event::Reason;
-use at_node::Report;
+use at_event::{Reason, Report};
 use at_print::{Printer, write_event_at};
 use std::alloc::{AllocError, Global};
 

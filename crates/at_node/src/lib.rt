@@ -10,11 +10,6 @@ mod numbers;
 mod settings;
 mod timers;
 
-pub use at_event::{
-    Call, Deferring, NameCall, NameReport, NameTimer, NodeFault, PacketCount, Reply, Report, Seat,
-    Service, SessionCall, StreamCall, StreamReport, StreamTimer, Timer, TransactionCall,
-    TransactionReport, TransactionTimer, ZoneCall, ZoneReport,
-};
 pub use node::Node;
 pub use numbers::{Draw, Input, carried, carried_in};
 pub use settings::Settings;

@@ -7,9 +7,10 @@ ghost use Rattle.at_nodes.specs.Openings.{neighbours_of, opening_node, rooms_of,
 
 use at_adsp_ends::Rooms;
 use at_ddp::{Listed, Pascal};
+use at_event::Seat;
 use at_name_socket::Neighbour;
 use at_nbp::copy_of;
-use at_node::{Node, Seat, Settings};
+use at_node::{Node, Settings};
 use at_setup::{NodeSetup, Setup};
 use at_zip::{Tables, Zones};
 use std::alloc::{AllocError, Allocator};

@@ -4,8 +4,9 @@ ghost use Rattle.at_node.specs.Limits.{IsWithin};
 ghost use Rattle.at_nodes.specs.Taking.{Takes};
 
 use at_ddp::Datagrams;
+use at_event::{Deferring, Report};
 use at_node::laws::a_node_keeps_its_seat;
-use at_node::{Deferring, Input, Node, Report};
+use at_node::{Input, Node};
 use std::alloc::Allocator;
 
 /// A node takes an input. What it sends goes to the end of the list. It keeps its seat and its limits.

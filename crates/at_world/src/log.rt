@@ -7,7 +7,8 @@ ghost use Rattle.at_world.specs.Sents.{stamp};
 use crate::draws::LastDraws;
 use crate::sent::SentList;
 use at_ddp::Datagrams;
-use at_node::{Draw, NameReport, Report, StreamReport, TransactionReport};
+use at_event::{NameReport, Report, StreamReport, TransactionReport};
+use at_node::Draw;
 use std::alloc::{AllocError, Allocator};
 
 /// The most events that are played.

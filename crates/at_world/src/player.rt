@@ -12,7 +12,7 @@ use crate::sent::SentList;
 use crate::transcript::{PlayFault, Transcript};
 use crate::world::World;
 use at_ddp::Listed;
-use at_node::Report;
+use at_event::Report;
 use at_setup::{Event, EventFault, Setup};
 use std::alloc::Allocator;
 

@@ -1,7 +1,7 @@
 //! What a play gives: the reports and the datagrams, of all events or up to the one that was refused.
 use crate::sent::SentList;
 use at_ddp::Listed;
-use at_node::Report;
+use at_event::Report;
 use at_setup::EventFault;
 use std::alloc::{Allocator, Global};
 

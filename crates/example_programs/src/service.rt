@@ -6,10 +6,10 @@ ghost use Rattle.at_event.specs.declared.service.Reply.TheVariants.{Now};
 use at_adsp_end::Rooms;
 use at_atp::{Key, Packet};
 use at_ddp::{Bytes, Datagrams, Listed};
-use at_node::{
-    Call, Deferring, Node, PacketCount, Reply, Report, Seat, Service, Settings, TransactionCall,
-    TransactionReport,
+use at_event::{
+    Call, Deferring, PacketCount, Reply, Report, Seat, Service, TransactionCall, TransactionReport,
 };
+use at_node::{Node, Settings};
 use std::alloc::{AllocError, Global};
 use std::io;
 

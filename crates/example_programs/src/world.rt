@@ -1,7 +1,7 @@
 //! A world of two nodes, stepped event by event: a request is lost, and the response to its retry comes late.
 use at_atp::{Key, Packet};
 use at_ddp::{Address, Bytes, Listed};
-use at_node::{
+use at_event::{
     Call, PacketCount, Report, Timer, TransactionCall, TransactionReport, TransactionTimer,
 };
 use at_world::{Event, NodeSetup, Setup, World};
