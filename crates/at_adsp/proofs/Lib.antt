@@ -26,6 +26,7 @@ mod FlowReceptions
 mod FlowHistories
 mod PlainHistories
 mod Ranges
+mod SentRanges
 mod RangeHistories
 mod RangeSteps
 mod RangeRuns
@@ -47,6 +48,7 @@ mod PacedNetworks
 mod PacedEnds
 mod PacedBirths
 mod PacedCalls
+mod CallPaces
 mod PacedOpenings
 mod PacedReceptions
 mod PacedHistories
@@ -56,9 +58,11 @@ mod NearWires
 mod NearHistories
 mod FewNears
 mod Lifts
+mod LiftedSegments
 mod StrangeSegments
 mod StrangeWires
 mod Ours
+mod OurMoves
 mod OurHistories
 mod Remotes
 mod TakenItems

@@ -20,8 +20,9 @@ use Rattle.at_ddp.proofs.PostLemmas.{none_sent, put_elsewhere, sent_at, sent_bot
 use Rattle.at_adsp.specs.Network.{after, calls_with, does_with, done, gave_up, takes, wrote_first}
 use Rattle.at_adsp.specs.Pairs.{HappensHere}
 use Rattle.at_adsp.specs.Streams.{Deed, Nothing, Read}
-use Rattle.at_adsp.proofs.Ours.{AreOurs, IsOurs, KeepsAny, KeepsOurs, SaysOurs, closed_ours, connected_ours, reads_ours}
-use Rattle.at_adsp.proofs.Ours.{received_ours, resets_ours, ticks_ours, wrote_ours}
+use Rattle.at_adsp.proofs.Ours.{AreOurs, IsOurs, KeepsAny, KeepsOurs, SaysOurs}
+use Rattle.at_adsp.proofs.OurMoves.{closed_ours, connected_ours, reads_ours, received_ours, resets_ours, ticks_ours}
+use Rattle.at_adsp.proofs.OurMoves.{wrote_ours}
 
 -- what a segment says of the address that it was sent from
 abbrev pub SentOurs : (Address → Bool) → Sent → Type 0

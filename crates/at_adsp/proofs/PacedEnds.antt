@@ -12,7 +12,7 @@ use Rattle.at_adsp_end.specs.Ends.{EndState, addressed, has_opened, no_receiver,
 use Rattle.at_adsp_ends.specs.Tables.{EndTable, by_id, moved, with_changed}
 use Rattle.at_ddp.specs.Posts.{AllSent, put, stamped}
 use Rattle.at_ddp.proofs.PostLemmas.{put_elsewhere, sent_both, sent_implied}
-use Rattle.at_adsp.specs.Network.{Setting, Made, Sent, Network, birth_of, does_with, is_end, newest, noted, noted_with}
+use Rattle.at_adsp.specs.Network.{Setting, Made, Sent, Network, birth_of, does_with, is_end, newest, noted_with}
 use Rattle.at_adsp.specs.Streams.{Deed}
 use Rattle.at_adsp.proofs.Changes.{Moves, fresh_same, made_is, newest_now, there}
 use Rattle.at_adsp.proofs.EndMoves.{IsPlainPart}

@@ -9,7 +9,6 @@ use Rattle.at_adsp_end.specs.Positions.{whole}
 use Rattle.at_adsp_end.specs.Sending.{acks, hearing, repeated, sending, shut}
 use Rattle.at_adsp_end.specs.declared.forward.Forward.TheVariants.{Jump, Older, Beyond}
 use Rattle.at_adsp_end.specs.declared.item.Item.{Item}
-use Rattle.at_adsp_end.specs.declared.phase.Phase.TheVariants as phase
 use Rattle.at_adsp.proofs.Carries.{acks_within}
 use Rattle.at_adsp.proofs.Fews.{FewSaid, length_take, saying_few}
 use Rattle.at_adsp.proofs.Hears.{hearing_receiver}

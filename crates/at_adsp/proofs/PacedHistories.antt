@@ -11,8 +11,8 @@ use Rattle.at_ddp.proofs.PostLemmas.{none_sent, sent_at, sent_both}
 use Rattle.at_adsp.specs.Network.{IsTimely, birth_of, done, hears, newest, opening, takes}
 use Rattle.at_adsp.specs.Orders.{whole_numbered}
 use Rattle.at_adsp.proofs.Logs.{length_both}
-use Rattle.at_adsp.proofs.PacedCalls.{closes_pace, connects_pace, listens_pace, reads_pace, resets_pace, ticks_pace}
-use Rattle.at_adsp.proofs.PacedCalls.{writes_pace}
+use Rattle.at_adsp.proofs.CallPaces.{closes_pace, connects_pace, listens_pace, reads_pace, resets_pace, ticks_pace}
+use Rattle.at_adsp.proofs.CallPaces.{writes_pace}
 use Rattle.at_adsp.proofs.PacedNetworks.{LowHere, PaceOf, PaceOn, TellsHere, earlier_low, none_go, pace_later}
 use Rattle.at_adsp.proofs.PacedNetworks.{sent_before, still_pace}
 use Rattle.at_adsp.proofs.PacedReceptions.{hears_pace}

@@ -8,7 +8,7 @@ use Rattle.at_adsp_end.specs.Ends.{addressed, has_opened, no_receiver, no_sender
 use Rattle.at_adsp_ends.specs.Tables.{EndTable}
 use Rattle.at_ddp.specs.Posts.{AllSent, packet_at, stamped}
 use Rattle.at_ddp.proofs.PostLemmas.{sent_at, sent_implied}
-use Rattle.at_adsp.specs.Network.{Made, Sent, Network, birth_of, is_fresh, newest, noted}
+use Rattle.at_adsp.specs.Network.{Made, Sent, Network, birth_of, is_fresh, newest}
 use Rattle.at_adsp.proofs.EndMoves.{IsPlainPart}
 use Rattle.at_adsp.proofs.Fews.{count_of}
 use Rattle.at_adsp.proofs.Logs.{length_both}

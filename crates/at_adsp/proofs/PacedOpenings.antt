@@ -6,7 +6,7 @@ use Rattle.std.specs.List.{AllByRecursion}
 use Rattle.std.proofs.lemmas.Bool.{true≢false}
 use Rattle.at_ddp.specs.declared.address.Address.{Address}
 use Rattle.at_ddp.proofs.Alls.{all_both, all_found}
-use Rattle.at_adsp_frame.specs.Segments.{Content, Part, Open, Reset}
+use Rattle.at_adsp_frame.specs.Segments.{Content, Part, Reset}
 use Rattle.at_adsp_end.specs.Ends.{EndState, Receiver, Sender, addressed, has_opened, no_receiver, no_sender}
 use Rattle.at_adsp_end.specs.Positions.{whole}
 use Rattle.at_adsp_end.specs.Sending.{acks}

@@ -22,7 +22,7 @@ use Rattle.at_adsp_ends.specs.Openings.{ack_came, answer_came, answers_again, co
 use Rattle.at_adsp_ends.specs.Openings.{ignored, is_answered, opened, request_came, room_for}
 use Rattle.at_adsp_ends.specs.Receiving.{any_request_came, opening_came, part_came, segment_came, settled}
 use Rattle.at_adsp_ends.specs.Tables.{EndTable, by_id, by_remote, freed, has_id, next_id, stayed, without_end}
-use Rattle.at_adsp.specs.Network.{Setting, Network, MakesInTime, NoneNames, does, hears, is_end, named, newest}
+use Rattle.at_adsp.specs.Network.{Setting, Network, MakesInTime, NoneNames, does, hears, is_end, named}
 use Rattle.at_adsp.specs.Orders.{whole_numbered}
 use Rattle.at_adsp.specs.Streams.{Nothing}
 use Rattle.at_adsp.proofs.Distinct.{drawn}

@@ -1,5 +1,5 @@
 -- Every history that is in range leaves a network in range.
-use Rattle.std.proofs.Common.{◌≡◌, ◌<◌, Bool, List, [], ◌∷◌}
+use Rattle.std.proofs.Common.{◌≡◌, Bool, List, [], ◌∷◌}
 use Rattle.std.proofs.Common.{replicate, Option, Some, None, refl, lit<}
 use Rattle.std.specs.List.{AllByRecursion}
 use Rattle.at_ddp.specs.declared.address.Address.{Address}

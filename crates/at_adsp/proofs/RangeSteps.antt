@@ -36,11 +36,13 @@ use Rattle.at_adsp.specs.Lawfully.{IsLawfullySent}
 use Rattle.at_ddp.specs.Posts.{stamped}
 use Rattle.at_ddp.proofs.PostLemmas.{put_elsewhere, sent_both}
 use Rattle.at_adsp.specs.Network.{Network, Setting}
-use Rattle.at_adsp.specs.Network.{after, calls, calls_with, does}
+use Rattle.at_adsp.specs.Network.{calls, calls_with, does}
 use Rattle.at_adsp.specs.Streams.{Deed}
-use Rattle.at_adsp.proofs.Ranges.{AllLawful, AreItems, EndFits, Fits, again_fits, answering_fits, asking_fits}
-use Rattle.at_adsp.proofs.Ranges.{closing_fits, confirming_fits, denying_fits, heard_fits, hearing_fits, probes_fits}
-use Rattle.at_adsp.proofs.Ranges.{reading_fits, resetting_fits, shuts_fits, writing_fits}
+use Rattle.at_adsp.proofs.Ranges.{AllLawful, AreItems, EndFits, Fits, asking_fits}
+use Rattle.at_adsp.proofs.SentRanges.{again_fits, answering_fits}
+use Rattle.at_adsp.proofs.SentRanges.{closing_fits, confirming_fits, denying_fits, heard_fits, hearing_fits}
+use Rattle.at_adsp.proofs.SentRanges.{probes_fits}
+use Rattle.at_adsp.proofs.SentRanges.{reading_fits, resetting_fits, shuts_fits, writing_fits}
 use Rattle.at_adsp.proofs.RangeHistories.{TableFits, NetworkFits, next_below, CanBeSent, addressed_fits, stamped_fits}
 
 module _ (setting : Setting) (n : Network) (at : Address) (here : IsAddress at) (f : NetworkFits n) where

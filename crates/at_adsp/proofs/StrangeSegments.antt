@@ -1,4 +1,4 @@
--- What a segment with any numbers does at a table of ends on the cable, another does where numbers may be of any size.
+-- What a segment with any numbers does at a table of ends on the cable, another does where numbers may be open.
 use Rattle.std.proofs.Common.{◌≡◌, ℕ, Bool, true, false, cond, List, [], ◌∷◌, ◌++◌, map, Option, Some, None, refl, sym}
 use Rattle.std.proofs.Common.{ap, subst, ◌∙◌}
 use Rattle.std.specs.Prelude.{◌==◌, ◌&&◌}
@@ -9,11 +9,10 @@ use Rattle.at_adsp_frame.specs.declared.segment.OpenKind.{OpenKind}
 use Rattle.at_adsp_frame.specs.declared.segment.OpenKind.TheVariants.{Request, Acknowledgement}
 use Rattle.at_adsp_frame.specs.declared.segment.OpenKind.TheVariants.{RequestAndAcknowledgement, Denial}
 use Rattle.at_adsp_end.specs.Ends.{Change, EndState, confirming, has_remote, id_of, is_half, is_open, is_opening}
-use Rattle.at_adsp_end.specs.Hearing.{Advises, Answers, Asks, Brings, Closes, Resets, Outcome, Saying, after_hearing}
-use Rattle.at_adsp_end.specs.Hearing.{heard, is_empty, told}
+use Rattle.at_adsp_end.specs.Hearing.{Outcome}
+use Rattle.at_adsp_end.specs.Hearing.{heard, told}
 use Rattle.at_adsp_end.specs.Positions.{whole, wire}
 use Rattle.at_adsp_end.specs.Sending.{acks, hearing}
-use Rattle.at_adsp_end.specs.declared.forward.Forward.TheVariants.{Jump, Older, Beyond}
 use Rattle.at_adsp_end.specs.declared.phase.Phase.TheVariants as phase
 use Rattle.at_adsp_end.specs.declared.remote.Remote.{Remote}
 use Rattle.at_adsp_end.specs.declared.change.EndChange.{EndChange}
@@ -31,45 +30,7 @@ use Rattle.at_adsp.proofs.WireCalls.{id_wired, moved_wired, remote_wired, settle
 use Rattle.at_adsp.proofs.WireCalls.{wired_table}
 use Rattle.at_adsp.proofs.WireSegments.{any_wired, denial_wired, none_wired}
 use Rattle.at_adsp.proofs.Wires.{control_wired, heard_wired, hearing_wired, wired_change}
-
--- the same is done, and an end is made here where one is made there
-pub record Alike (d k : Done EndChange) : Type 0 where
-  pub after : d.after ≡ k.after
-  pub changed : d.changed ≡ k.changed
-  pub sent : d.sent ≡ k.sent
-  pub makes : (id : ℕ) → k.answer ≡ step.Made id → d.answer ≡ step.Made id
-
-alike_same : (d k : Done EndChange) → d ≡ k → Alike d k
-alike_same d k h = record {
-  after = ap (λ (x : Done EndChange). x.after) h;
-  changed = ap (λ (x : Done EndChange). x.changed) h;
-  sent = ap (λ (x : Done EndChange). x.sent) h;
-  makes = λ id is. ap (λ (x : Done EndChange). x.answer) h ∙ is;
-}
-
--- what an open end hears makes no end
-never_makes : (c : Change) (ack : Bool) (s : Saying) (id : ℕ) → (after_hearing whole c ack s).step ≡ step.Made id
-    → {A : Type 0} → A
-never_makes c ack (Brings items) id is = absurd (cc)
-never_makes c ack Asks id is = absurd (cc)
-never_makes c ack Closes id is = absurd (cc)
-never_makes c ack (Resets (Jump d)) id is = absurd (cc)
-never_makes c ack (Resets Older) id is = absurd (cc)
-never_makes c ack (Resets Beyond) id is = absurd (cc)
-never_makes c ack (Answers false) id is = absurd (cc)
-never_makes c ack (Answers true) id is = absurd (cc)
-never_makes c ack Advises id is = go (is_empty c.after.sender.unacknowledged) is
-  where
-    go : (b : Bool) → cond b (step.Heard c.after.id 0) step.Again ≡ step.Made id → {A : Type 0} → A
-    go true h = absurd (cc)
-    go false h = absurd (cc)
-
--- another segment of the same end that does the same
-pub record LiftedAt (t : EndTable) (from : Address) (s : Content) : Type 0 where
-  pub segment : Content
-  pub source : segment.source ≡ s.source
-  pub window : segment.window ≡ s.window
-  pub alike : Alike (received wire (wired_table t) from s) (wired_done (received whole t from segment))
+use Rattle.at_adsp.proofs.LiftedSegments.{Alike, alike_same, never_makes, LiftedAt}
 
 module _ (t : EndTable) (from : Address) (s : Content)
     (can : (e : EndState) → by_remote t (record { address = from; id = s.source }) ≡ Some e → is_open e.phase ≡ true

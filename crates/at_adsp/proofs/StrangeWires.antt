@@ -30,7 +30,8 @@ use Rattle.at_adsp.proofs.Mapped.{mapped}
 use Rattle.at_adsp.proofs.Receptions.{own_remote}
 use Rattle.at_adsp.proofs.Sound.{Knows, Reaches, Sound}
 use Rattle.at_adsp.proofs.Steps.{found_passes, found_stands, stands_known}
-use Rattle.at_adsp.proofs.StrangeSegments.{Alike, LiftedAt, received_lifts}
+use Rattle.at_adsp.proofs.LiftedSegments.{Alike, LiftedAt}
+use Rattle.at_adsp.proofs.StrangeSegments.{received_lifts}
 use Rattle.at_adsp.proofs.WireCalls.{wired_done, wired_table}
 use Rattle.at_adsp.proofs.WireHistories.{names_none, timely_whole}
 use Rattle.at_adsp.proofs.WireNetworks.{ComesNear, does_wired, done_wired, packet_wired, wired_made, wired_network}

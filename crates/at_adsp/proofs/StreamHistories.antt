@@ -4,7 +4,6 @@ use Rattle.std.proofs.Common.{Some, None, inl, inr, refl, ap, ◌∙◌}
 use Rattle.std.specs.Prelude.{not, Ok, Err, ◌&&◌}
 use Rattle.std.proofs.lemmas.Bool.{true≢false, eqb-true}
 use Rattle.at_ddp.specs.declared.address.Address.{Address}
-use Rattle.at_adsp_frame.specs.Segments.{Open}
 use Rattle.at_adsp_end.specs.Calls.{is_last, probed, reading, ticked, writing}
 use Rattle.at_adsp_end.specs.Ends.{Change, EndState, asking, connector, has_opened}
 use Rattle.at_adsp_end.specs.Ends.{is_closed, is_open, places}
@@ -26,7 +25,7 @@ use Rattle.at_adsp_ends.specs.Receiving.{settled}
 use Rattle.at_adsp_ends.specs.Tables.{EndTable, by_id, freed, has_id, moved, next_id}
 use Rattle.at_adsp.specs.Connections.{AfterCall, AfterConnecting, AfterStep, streams}
 use Rattle.at_adsp.specs.Network.{Network}
-use Rattle.at_adsp.specs.Network.{Setting, after, calls}
+use Rattle.at_adsp.specs.Network.{Setting, calls}
 use Rattle.at_adsp.specs.Network.{calls_with, does, gave_up, wrote_first}
 use Rattle.at_adsp.specs.Streams.{GaveUp, Read, with_deed}
 use Rattle.at_adsp.proofs.Beginnings.{made_streams}

@@ -6,6 +6,7 @@ mod OpenLemmas
 mod RequestLemmas
 mod RequesterLemmas
 mod ResponseLemmas
+mod WantedLemmas
 mod RetryLemmas
 mod StandingLemmas
 mod StayLemmas

@@ -1,6 +1,6 @@
 //! The packets that came for a transaction, each in its place, and which are still wanted.
 ghost use Rattle.std.specs.Prelude.{◌≡◌, ◌+◌, ◌≤◌, ◌<◌, ◌^◌, length, is_some, Some, IfOk};
-ghost use Rattle.std.specs.Prelude.{vec_capacity, vec_len};
+ghost use Rattle.std.specs.Prelude.{None, replicate, vec_capacity, vec_len};
 ghost use Rattle.at_atp_requester.specs.Answers.{AnswerPart, is_wanted, bitmap_of, whole, with_part, gathered};
 ghost use Rattle.at_atp_frame.specs.Packets.{Packet};
 
@@ -48,6 +48,22 @@ impl<A: Allocator> Part<A> {
     {
         self.packet
     }
+}
+
+// The places of a new transaction, in the room of an earlier one: nothing came for any.
+pub(crate) fn no_parts<A: Allocator>(
+    room: Vec<Option<Part<A>>, A>,
+    wanted: u8,
+) -> Result<Vec<Option<Part<A>>, A>, AllocError>
+    ensures { IfOk result (λ v. v.items ≡ replicate wanted None) }
+{
+    let mut parts = room;
+    parts.clear();
+    parts.reserve(wanted as usize)?;
+    for _i in 0..wanted {
+        parts.push(None)?;
+    }
+    Ok(parts)
 }
 
 // Whether the packet with this sequence number is still wanted.

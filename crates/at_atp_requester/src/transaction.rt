@@ -1,13 +1,13 @@
 //! One open transaction: what it asked, what came for it, and what is still wanted.
 ghost use Rattle.std.specs.Prelude.{◌≡◌, ◌+◌, ◌-◌, ◌≤◌, ◌<◌, ◌∷◌, ◌&&◌, Bool, not, nat_lt, if◌then◌else◌, ℕ, List};
-ghost use Rattle.std.specs.Prelude.{length, is_some, Some, None, IfOk, OnOk, OnErr, IsOk, true, false, [], replicate};
+ghost use Rattle.std.specs.Prelude.{length, is_some, Some, None, IfOk, OnOk, OnErr, IsOk, true, false, []};
 ghost use Rattle.at_ddp.specs.Outbox.{Sends};
 ghost use Rattle.at_atp_frame.specs.Packets.{Packet as Arrived};
 ghost use Rattle.at_atp_requester.specs.Answers.{AnswerPart, is_wanted, whole, with_part};
 ghost use Rattle.at_atp_frame.specs.Frames.{content, CanBeWritten, data_of, spelled_all};
 ghost use Rattle.at_atp_requester.specs.Requests.{beginning, is_of, request_by, release_by, came, is_finished};
 
-use crate::part::{Part, bitmap_of, completes, gather, is_wanted};
+use crate::part::{Part, bitmap_of, completes, gather, is_wanted, no_parts};
 use crate::progress::RequestProgress;
 use at_atp_frame::{Frame, PACKET_LEN, send};
 use at_ddp::{Address, Bytes, Listed, Outbox};
@@ -295,19 +295,4 @@ impl<A: Allocator + Copy> Transaction<A> {
         let parts = mem::replace(&mut self.parts, Vec::new(alloc));
         Ok(RequestProgress::Finished(Listed::from_vec(gather(parts, packets))))
     }
-}
-
-fn no_parts<A: Allocator>(
-    room: Vec<Option<Part<A>>, A>,
-    wanted: u8,
-) -> Result<Vec<Option<Part<A>>, A>, AllocError>
-    ensures { IfOk result (λ v. v.items ≡ replicate wanted None) }
-{
-    let mut parts = room;
-    parts.clear();
-    parts.reserve(wanted as usize)?;
-    for _i in 0..wanted {
-        parts.push(None)?;
-    }
-    Ok(parts)
 }

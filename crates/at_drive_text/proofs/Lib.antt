@@ -1,3 +1,5 @@
 mod CourseLemmas
+mod CourseMoves
+mod CountLemmas
 mod NewsLemmas
 mod TellsLemmas

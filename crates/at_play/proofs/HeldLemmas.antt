@@ -6,7 +6,7 @@ use Rattle.at_faults.specs.declared.fault.Fault.{Fault as Why}
 use Rattle.at_print.specs.Papers.{Page}
 use Rattle.at_play.specs.Ends.{IsNotRead, IsTextFault, PlayText, PlaysText}
 use Rattle.at_play.specs.declared.ending.Ending.{Ending}
-use Rattle.at_play.proofs.ToldLemmas.{fault_of, held_of, whole_read}
+use Rattle.at_play.proofs.WholePlays.{fault_of, held_of, whole_read}
 
 text_fault : (A : Type 0) (known : Option (List ℕ)) (bytes all : List ℕ) (f : Why) → IfSome known (λ text. all ≡ text)
     → bytes ≡ all → IsTextFault A (Some bytes) f → IsTextFault A known f

@@ -7,3 +7,4 @@ mod RunLemmas
 mod SentLemmas
 pub mod TextLines
 pub mod ToldLemmas
+pub mod WholePlays

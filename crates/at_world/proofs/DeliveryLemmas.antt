@@ -1,5 +1,5 @@
 -- A delivery: which datagram comes, why it is refused, and what it does.
-use Rattle.std.proofs.Common.{◌≡◌, ℕ, ◌≤◌, true, false, not, List, [], length, Option, Some, None, sym}
+use Rattle.std.proofs.Common.{◌≡◌, ℕ, ◌≤◌, true, false, List, [], length, Option, Some, None, sym}
 use Rattle.std.proofs.Common.{ap, subst, ◌∙◌}
 use Rattle.std.proofs.lemmas.Option.{slice_get_past}
 use Rattle.std.specs.Prelude.{slice_get, ◌==◌, ◌||◌, if◌then◌else◌}
@@ -12,8 +12,6 @@ use Rattle.at_setup.specs.declared.event.Event.{Event}
 use Rattle.at_setup.specs.declared.event.Event.TheVariants as event
 use Rattle.at_setup.specs.declared.refusal.Refusal.{Refusal}
 use Rattle.at_setup.specs.declared.refusal.Refusal.TheVariants.{NoDatagram, NotForNode}
-use Rattle.at_setup.specs.declared.refusal.EventFault.{EventFault}
-use Rattle.at_setup.specs.declared.refusal.EventFault.TheVariants as fault
 use Rattle.at_world.specs.Worlds.{WorldState, is_over, node_at, node_refusal, refusal, refusal_at, delivery_refusal}
 use Rattle.at_world.specs.Worlds.{is_for, AreFree, IsTimely, IsPlayable, PlaysAt}
 use Rattle.at_nodes.specs.Taking.{Receives}

@@ -4,11 +4,14 @@ pub mod Counts
 pub mod Happenings
 pub mod Lists
 pub mod Newest
+pub mod AnsweredFrom
 pub mod Onces
+pub mod OncePlays
 pub mod OnWire
 pub mod Opening
 pub mod Places
 pub mod Readings
+pub mod PageSteps
 pub mod ReadingSteps
 pub mod Serving
 pub mod Staying
@@ -17,3 +20,4 @@ pub mod Tables
 pub mod Tie
 pub mod Times
 pub mod Told
+pub mod Delivered

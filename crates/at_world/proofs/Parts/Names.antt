@@ -6,6 +6,7 @@ pub mod Moments
 pub mod Next
 pub mod Opening
 pub mod Steps
+pub mod LookupFinds
 pub mod LookupSteps
 pub mod Stood
 pub mod Tie

@@ -4,8 +4,9 @@ use Rattle.at_drive.specs.Steps.{numbers_of}
 use Rattle.at_drive_lines.specs.Lines.{HasNext}
 use Rattle.at_drive_lines.specs.StepLines.{is_step_line}
 use Rattle.at_drive_text.specs.Driven.{Goes, IsUnread, first_progress}
-use Rattle.at_drive_text.proofs.CourseLemmas.{at_grows, bounded, nothing_driven, sofar_done, sofar_ended, sofar_line}
-use Rattle.at_drive_text.proofs.CourseLemmas.{sofar_unread}
+use Rattle.at_drive_text.proofs.CourseMoves.{nothing_driven, sofar_done, sofar_ended, sofar_line}
+use Rattle.at_drive_text.proofs.CountLemmas.{at_grows, bounded}
+use Rattle.at_drive_text.proofs.CourseMoves.{sofar_unread}
 use Rattle.at_drive_text.proofs.drive.drive_each.Goals as goal
 
 pub loop-course-init : goal.loop-course-init

@@ -2,7 +2,7 @@ use Rattle.std.proofs.Common.{◌∙◌, map, sym, ap, subst}
 use Rattle.at_drive.specs.Drives.{Driven as Nodes, number_of as node_number, opening_nodes_of}
 use Rattle.at_drive.specs.Steps.{numbers_of}
 use Rattle.at_drive_text.specs.Driven.{WasRead}
-use Rattle.at_drive_text.proofs.CourseLemmas.{not_opened}
+use Rattle.at_drive_text.proofs.CourseMoves.{not_opened}
 use Rattle.at_drive_text.proofs.TellsLemmas.{begin_numbers}
 use Rattle.at_drive_text.proofs.drive.drive_opened.Goals as goal
 

@@ -7,7 +7,8 @@ use Rattle.at_play.specs.Ends.{IsTooLong}
 use Rattle.std.proofs.lemmas.Result.{err_from_is_err_and}
 use Rattle.at_print.proofs.PrintLemmas.{Prints-nothing}
 use Rattle.at_play.proofs.HeldLemmas.{fits_known, play_known}
-use Rattle.at_play.proofs.ToldLemmas.{bytes_of_read, not_read, whatever_is_known}
+use Rattle.at_play.proofs.ToldLemmas.{bytes_of_read, not_read}
+use Rattle.at_play.proofs.WholePlays.{whatever_is_known}
 use Rattle.at_play.proofs.program.play_again.Given.{Over}
 use Rattle.at_play.proofs.program.play_again.Goals.{In_ok-send_back}
 use Rattle.at_play.proofs.program.play_again.Goals as goal

@@ -1,7 +1,7 @@
 use Rattle.std.proofs.Common.{subst, sym}
 use Rattle.at_print.specs.Printers.{HasFailed}
 use Rattle.at_print.proofs.PrintLemmas.{Prints-trans}
-use Rattle.at_play.proofs.ToldLemmas.{file_too_long}
+use Rattle.at_play.proofs.WholePlays.{file_too_long}
 use Rattle.at_play.proofs.program.play_file.Goals as goal
 
 pub returns-clause-ended : goal.returns-clause-ended

@@ -1,7 +1,7 @@
 use Rattle.std.proofs.Common.{subst, sym}
 use Rattle.at_print.specs.Printers.{HasFailed}
 use Rattle.at_print.proofs.PrintLemmas.{Prints-trans}
-use Rattle.at_play.proofs.ToldLemmas.{too_long_prints}
+use Rattle.at_play.proofs.WholePlays.{too_long_prints}
 use Rattle.at_play.proofs.program.play_text.Goals as goal
 
 pub returns-clause-ended : goal.returns-clause-ended

@@ -1,6 +1,6 @@
 use Rattle.std.proofs.Common.{[], ◌∙◌, Some, inl, inr, refl, subst, sym}
 use Rattle.std.proofs.lemmas.Result.{err_from_is_err_and}
-use Rattle.at_play.proofs.ToldLemmas.{fault_of, held_of}
+use Rattle.at_play.proofs.WholePlays.{fault_of, held_of}
 use Rattle.at_print.proofs.PrintLemmas.{Prints-nothing}
 use Rattle.at_record.proofs.PlayedLemmas.{said_of_read, unread}
 use Rattle.at_schedule.specs.Drafts.{HoldsSetup}

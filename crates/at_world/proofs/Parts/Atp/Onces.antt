@@ -1,6 +1,6 @@
 -- An exactly-once request runs at most once.
 use Rattle.std.proofs.Common.{◌≡◌, ◌⊎◌, inl, inr, ℕ, ◌+◌, ◌≤◌, Bool, true, false, cond, List, [], ◌∷◌, ◌++◌, length}
-use Rattle.std.proofs.Common.{take, Some, Result, Ok, Err, refl, sym, ap, subst, ◌∙◌, arith, lit<}
+use Rattle.std.proofs.Common.{take, Some, refl, sym, ap, subst, ◌∙◌, arith, lit<}
 use Rattle.std.specs.Prelude.{◌==◌}
 use Rattle.std.proofs.lemmas.Bool.{and_parts, eqb-true}
 use Rattle.at_ddp.specs.Address.{same_address}
@@ -22,31 +22,29 @@ use Rattle.at_event.specs.declared.Report.{Report}
 use Rattle.at_event.specs.declared.Report.TheVariants as report
 use Rattle.at_event.specs.declared.transactions.TransactionReport.TheVariants as atp_report
 use Rattle.at_event.specs.declared.zones.ZoneReport.TheVariants as zip_report
-use Rattle.at_world.specs.ExactlyOnce.{Played, onto, since, CameFrom, HandsUp, IsGiven, IsPageFor, GivesBy, AllLive}
-use Rattle.at_world.specs.ExactlyOnce.{BeganOnce, EndsBy, EndsWith, IsOnce, RanOnce, RunsOnce}
-use Rattle.at_world.specs.Plays.{opening_world, Follows, IsPlay}
+use Rattle.at_world.specs.ExactlyOnce.{Played, since, CameFrom, HandsUp, IsGiven, IsPageFor, GivesBy, AllLive}
+use Rattle.at_world.specs.ExactlyOnce.{BeganOnce, EndsBy, EndsWith, RanOnce, RunsOnce}
 use Rattle.at_world.specs.Sents.{SentDatagram}
 use Rattle.at_zip.specs.Tables.{Tables, table_of}
-use Rattle.at_setup.specs.Setups.{tables_of}
 use Rattle.at_steps.specs.AtpReports as reports
 use Rattle.at_steps.specs.AtpReports.{AsksFrom, IsPageAsked}
 use Rattle.at_steps.specs.AtpSteps.{page_answer}
-use Rattle.at_world.specs.Events.{NoForge, act_of, node_of}
+use Rattle.at_world.specs.Events.{act_of, node_of}
 use Rattle.at_world.specs.Stories.{Within, Matches}
 use Rattle.at_world.proofs.Acts.{called_at, delivered_at}
 use Rattle.at_setup.specs.declared.event.Event.{Event}
 use Rattle.at_setup.specs.declared.event.Event.TheVariants as event
-use Rattle.at_setup.specs.declared.setup.Setup.{Setup}
-use Rattle.at_world.specs.declared.transcript.Transcript.{Transcript}
-use Rattle.at_world.specs.declared.transcript.PlayFault.{PlayFault}
-use Rattle.at_world.specs.Worlds.{WorldState}
 use Rattle.at_world.proofs.Parts.Atp.Counts.{GivenAt, GivesAt, HandsUpAt, NoneOf, OneOf, SomeOf, any_since, asks_once}
 use Rattle.at_world.proofs.Parts.Atp.Counts.{at_most_one, began_as, began_under, is_once, live_before, steps_since}
-use Rattle.at_world.proofs.Parts.Atp.Newest.{NewestIs, HasAnswers, has_kept, kept_newest, one_answer_more, Has}
-use Rattle.at_world.proofs.Parts.Atp.Newest.{had_or_gave}
-use Rattle.at_world.proofs.Parts.Atp.Newest.{none_yet, once_newest}
-use Rattle.at_world.proofs.Parts.Atp.Told.{OnceLaws, Told, all_lived, came_so, key_parts, came_as, hands_complete}
-use Rattle.at_world.proofs.Parts.Atp.Told.{lawful, most_of, some_of, within_before}
+use Rattle.at_world.proofs.Parts.Atp.Newest.{NewestIs, HasAnswers, has_kept, kept_newest, one_answer_more}
+use Rattle.at_world.proofs.Parts.Atp.AnsweredFrom.{Has}
+use Rattle.at_world.proofs.Parts.Atp.AnsweredFrom.{had_or_gave}
+use Rattle.at_world.proofs.Parts.Atp.Newest.{once_newest}
+use Rattle.at_world.proofs.Parts.Atp.AnsweredFrom.{none_yet}
+use Rattle.at_world.proofs.Parts.Atp.Told.{OnceLaws, Told}
+use Rattle.at_world.proofs.Parts.Atp.Delivered.{all_lived, came_so, key_parts, came_as, hands_complete}
+use Rattle.at_world.proofs.Parts.Atp.Told.{within_before}
+use Rattle.at_world.proofs.Parts.Atp.Delivered.{lawful, most_of, some_of}
 
 -- ---- the promise
 
@@ -334,20 +332,3 @@ module _ (A : Type 0) (laws : OnceLaws A) (net : ℕ) (sent : List SentDatagram)
       → AllTimely A hs → AllByRecursion IsInRange hs → AllLive net sent past → RunsOnce net sent past
   runs_once past hs told within timely range live = λ later before x is. at_moment later before x hs
       (subst (λ l. Told A net l hs) is told) within timely range (subst (AllLive net sent) is live)
-
--- what steps from the opening give runs once
-abbrev pub StepsOnce : (A : Type 0) → Setup A → Type 0
-StepsOnce A s = (events : List (Event A)) (reports : List (Report A)) (w : WorldState) → NoForge events
-    → Follows (opening_world s) events reports w → AllLive s.net w.sent (onto (tables_of s) [] events reports)
-    → RunsOnce s.net w.sent (onto (tables_of s) [] events reports)
-
-pub play_is_once : (A : Type 0) (s : Setup A) (events : List (Event A)) (answer : Result (Transcript A) (PlayFault A))
-    → StepsOnce A s → IsPlay s events answer → IsOnce s events answer
-play_is_once A s events (Ok t) law h = λ forged_none. let played = h.1 in
-    subst (λ sent. AllLive s.net sent (onto (tables_of s) [] events t.reports)
-    → RunsOnce s.net sent (onto (tables_of s) [] events t.reports)) (sym played.1)
-    (law events t.reports h.0 forged_none played.0)
-play_is_once A s events (Err f) law h = λ forged_none. let played = h.1 in
-    subst (λ sent. AllLive s.net sent (onto (tables_of s) [] (take f.at events) f.transcript.reports)
-    → RunsOnce s.net sent (onto (tables_of s) [] (take f.at events) f.transcript.reports)) (sym played.1)
-    (law (take f.at events) f.transcript.reports h.0 forged_none played.0)

@@ -33,8 +33,9 @@ use Rattle.at_world.proofs.Acts.{called_at, delivered_at, fired_at}
 use Rattle.at_world.proofs.CableTie.{Wire}
 use Rattle.at_world.proofs.Parts.Atp.Lists.{no_answers, others_left}
 use Rattle.at_world.proofs.Parts.Atp.OnWire.{page_fits, wired}
-use Rattle.at_world.proofs.Parts.Atp.Readings.{Reads, all_stays, comes_from_router, fits, goes_on, has_all, longer}
-use Rattle.at_world.proofs.Parts.Atp.Readings.{no_fault}
+use Rattle.at_world.proofs.Parts.Atp.Readings.{Reads, all_stays, longer}
+use Rattle.at_world.proofs.Parts.Atp.PageSteps.{comes_from_router, fits, goes_on, has_all}
+use Rattle.at_world.proofs.Parts.Atp.PageSteps.{no_fault}
 use Rattle.at_world.proofs.Parts.Atp.Readings.{HasStood, has_stood, stood_before}
 use Rattle.at_world.proofs.Parts.Atp.Tie.{Laws, IsReading, AtpTie, Stepped, moved}
 use Rattle.at_world.proofs.Parts.Atp.Staying.{Allows, so_at, tables_kept, still_theirs}

@@ -31,8 +31,6 @@ use Rattle.at_event.specs.declared.Report.{Report}
 use Rattle.at_event.specs.declared.Report.TheVariants as report
 use Rattle.at_event.specs.declared.streams.StreamReport.{StreamReport}
 use Rattle.at_event.specs.declared.streams.StreamReport.TheVariants as adsp_report
-use Rattle.at_event.specs.declared.Timer.TheVariants as timer
-use Rattle.at_event.specs.declared.streams.StreamTimer.TheVariants as adsp_timer
 use Rattle.at_node.specs.Nodes.{NodeState}
 use Rattle.at_steps.specs.StreamHappenings.{Happens, change, stream_coding}
 use Rattle.at_steps.specs.StreamSteps as steps

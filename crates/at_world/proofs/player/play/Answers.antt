@@ -1,5 +1,5 @@
 use Rattle.at_world.proofs.Canonical.{play_sends}
-use Rattle.at_world.proofs.Parts.Atp.Onces.{play_is_once}
+use Rattle.at_world.proofs.Parts.Atp.OncePlays.{play_is_once}
 use Rattle.at_world.proofs.Runs.{play_agrees, play_runs}
 use Rattle.at_world.proofs.player.play.Goals as goal
 
