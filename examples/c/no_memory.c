@@ -11,6 +11,7 @@
 #include <string.h>
 
 #include "at_node.h"
+#include "refusing.h"
 
 enum { NODES = 2, MAX_PRINTED = 65536 };
 
@@ -25,32 +26,6 @@ static const char *const lines[] = {"call zones",
                                     "call ask 1 129 00000000 AA 1 xo 3",
                                     "call answer 1 128 0 00000000:BB"};
 enum { LINES = sizeof lines / sizeof *lines };
-
-/* How many blocks stand, how many were asked for, and which of these is refused. */
-static long standing, asked, refused_at;
-
-void *__real_malloc(size_t size);
-void *__real_realloc(void *block, size_t size);
-void __real_free(void *block);
-
-void *__wrap_malloc(size_t size) {
-    if (++asked == refused_at) return NULL;
-    void *block = __real_malloc(size);
-    if (block != NULL) standing++;
-    return block;
-}
-
-void *__wrap_realloc(void *old, size_t size) {
-    if (++asked == refused_at) return NULL;
-    void *block = __real_realloc(old, size);
-    if (block != NULL && old == NULL) standing++;
-    return block;
-}
-
-void __wrap_free(void *block) {
-    if (block != NULL) standing--;
-    __real_free(block);
-}
 
 static at_node nodes[NODES];
 static uint8_t printed[MAX_PRINTED];

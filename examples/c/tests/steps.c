@@ -11,6 +11,7 @@
 #include <string.h>
 
 #include "at_node.h"
+#include "../refusing.h"
 
 enum { MAX_TEXT = 1024, MAX_STEPS = 32, NONE = -1 };
 
@@ -139,35 +140,6 @@ enum {
     IGNORED = sizeof ignored / sizeof *ignored
 };
 
-/* How many blocks stand, how many were asked for in steps, and which of these is refused. */
-static long standing, asked, refused_at;
-static int in_step;
-
-static int is_refused(void) {
-    return in_step && ++asked == refused_at;
-}
-
-void *__real_malloc(size_t size);
-void *__real_realloc(void *block, size_t size);
-void __real_free(void *block);
-
-void *__wrap_malloc(size_t size) {
-    void *block = is_refused() ? NULL : __real_malloc(size);
-    if (block != NULL) standing++;
-    return block;
-}
-
-void *__wrap_realloc(void *old, size_t size) {
-    void *block = is_refused() ? NULL : __real_realloc(old, size);
-    if (block != NULL && old == NULL) standing++;
-    return block;
-}
-
-void __wrap_free(void *block) {
-    if (block != NULL) standing--;
-    __real_free(block);
-}
-
 static at_node node = AT_NODE_NONE;
 
 static void fail(const char *what, const struct step *step) {
@@ -196,10 +168,10 @@ static size_t bytes_of(const char *digits, uint8_t *bytes) {
 static uint32_t give(const struct step *step) {
     uint8_t bytes[AT_NODE_MAX_DATAGRAM] = {0};
     size_t length = is_call(step) ? 0 : bytes_of(step->given, bytes);
-    in_step = 1;
+    requests_count = 1;
     uint32_t status = is_call(step) ? at_node_play(&node, (const uint8_t *)step->given, strlen(step->given))
                                     : at_node_receive(&node, bytes, length);
-    in_step = 0;
+    requests_count = 0;
     return status;
 }
 
@@ -309,6 +281,7 @@ static void try_ignored(void) {
 }
 
 int main(void) {
+    requests_count = 0;
     try_session();
     try_receptions();
     try_ignored();
