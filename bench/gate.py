@@ -3,9 +3,9 @@
 
     bench/gate.py [--table FILE] [COMMAND ..]
 
-It runs `rt ci`, or the command that is given, and looks four times a second at the prover's processes. What such a
-process does in its last quarter of a second is not counted. What the command prints is printed as it comes. The status
-is the command's. The table is written to FILE too: bench/gate.txt is such a one, of which `gate/changed` makes its
+It runs `rt ci`, or the command that is given, and looks four times a second at the prover's processes below it. What
+such a process does in its last quarter of a second is not counted. What the command prints is printed as it comes. The
+status is the command's. The table is written to FILE too: bench/gate.txt is such a one, of which `gate/changed` makes its
 forecast. Groups are those of `gate/wrong`.
 """
 
@@ -25,11 +25,22 @@ def arguments_of(pid):
         return file.read().decode(errors="replace").split("\0")
 
 
+def numbers_of(pid):
+    """What the system tells of a process, from its state on."""
+    with open(f"/proc/{pid}/stat") as file:
+        return file.read().rpartition(")")[2].split()
+
+
 def seconds_of(pid):
     """The processor seconds of a process and of its ended children."""
-    with open(f"/proc/{pid}/stat") as file:
-        fields = file.read().rpartition(")")[2].split()
-    return sum(int(it) for it in fields[11:15]) / TICKS
+    return sum(int(it) for it in numbers_of(pid)[11:15]) / TICKS
+
+
+def is_below(pid, command):
+    """Whether the command began this process, or one that began it."""
+    while pid not in (command, 0):
+        pid = int(numbers_of(pid)[1])
+    return pid == command
 
 
 def kind_of(words):
@@ -42,12 +53,12 @@ def kind_of(words):
     return "tests" if "--test" in words else "proofs"
 
 
-def looked_at(found):
-    """Notes the time of each process of the prover that runs now."""
+def looked_at(found, command):
+    """Notes the time of each process of the prover that runs now, below this command."""
     for pid in filter(str.isdigit, os.listdir("/proc")):
         try:
             words = arguments_of(pid)
-            if words[0].endswith("/rattle") and "--crate-name" in words:
+            if words[0].endswith("/rattle") and "--crate-name" in words and is_below(int(pid), command):
                 crate = words[words.index("--crate-name") + 1]
                 found[pid, crate, kind_of(words)] = seconds_of(pid)
         except (OSError, IndexError, ValueError):
@@ -77,7 +88,7 @@ def main():
     found, begun = {}, time.monotonic()
     command = subprocess.Popen(words or ["rt", "ci"], stdin=subprocess.DEVNULL)
     while command.poll() is None:
-        looked_at(found)
+        looked_at(found, command.pid)
         time.sleep(PERIOD)
     lines = [*told(found, time.monotonic() - begun)]
     print(*lines, sep="\n")
