@@ -11,5 +11,5 @@ mod settings;
 mod timers;
 
 pub use node::Node;
-pub use numbers::{Draw, Input, carried, carried_in};
+pub use numbers::{Draw, Input, carried_in};
 pub use settings::Settings;
