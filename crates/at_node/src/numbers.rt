@@ -148,8 +148,8 @@ impl<A: Allocator + Copy> Node<A> {
     }
 }
 
-/// The numbers that a datagram carries, each with the node that draws it. There are none if the received bytes begin with
-/// no datagram, or if its data begins with no packet.
+/// The numbers that a datagram carries, each with the node that draws it. There are none if the received bytes begin
+/// with no datagram, or if its data begins with no packet.
 pub fn carried_in(packet: &Packet<'_>) -> [Option<(u8, Draw)>; 2]
     ensures { (node : ℕ) (draw : Drawn) → Contains result (Some (node, draw)) ↔ Carries packet.now node draw }
 {

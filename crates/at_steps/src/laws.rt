@@ -31,7 +31,8 @@ pub mod sessions;
 pub mod streams;
 
 /// An event of ATP or ZIP is one happening among requesters and responders, if no responder holds the number that it
-/// makes the node draw: a call, a timer that fires, or a packet in time that comes to a node whose service answers later.
+/// makes the node draw. It is a call, a timer that fires, or a packet in time that comes to a node. The service of that
+/// node answers later.
 pub fn an_event_is_a_happening_of_atp<A: Allocator>()
     ensures call { (history : List Happening) (n : NodeState) (call : Call A)
         → Stands A history n.seat.net n.seat.number n → IsCall call → is_atp (speaker_of_call call) ≡ true
