@@ -8,8 +8,8 @@ ghost use Rattle.at_drive_lines.specs.Lines.{HasNext, IsLast, lines_of};
 use at_faults::{Fault, Unreadable};
 use at_schedule::laws::first_line;
 use at_schedule::{cut_line, read_line};
-use std::alloc::{AllocError, Allocator, Global};
-use std::io::{BufRead, BufReader, Read};
+use std::alloc::{Allocator, Global};
+use std::io::BufRead;
 
 /// A text that is read line by line.
 pub trait Lines {

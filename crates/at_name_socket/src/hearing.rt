@@ -13,7 +13,7 @@ ghost use Rattle.at_nbp.specs.Packets.{packet_content};
 ghost use Rattle.at_nbp.specs.declared.fault.NbpFault.{NbpFault as Fault};
 
 use crate::neighbour::Neighbour;
-use crate::socket::{EVERY_NODE, NAME_SOCKET, NameSocket};
+use crate::socket::{EVERY_NODE, NameSocket};
 use crate::step::Heard;
 use at_ddp::{Address, Outbox, Pascal};
 use at_nbp::{Function, NbpFault, Packet, relay};

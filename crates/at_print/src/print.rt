@@ -9,9 +9,7 @@ ghost use Rattle.at_print.specs.Reports.{DataText, IsReadable, timer_line};
 
 use crate::packet_lines::write_raw;
 use crate::paper::Paper;
-use crate::piece::{
-    HEAD, Piece, TIMER, end_with_hex, end_with_number, end_with_pairs, end_with_word,
-};
+use crate::piece::{HEAD, Piece, end_with_hex, end_with_number, end_with_pairs, end_with_word};
 use crate::print::names::{write_name_data, write_name_report, write_name_timer};
 use crate::print::streams::{write_stream_data, write_stream_report, write_stream_timer};
 use crate::print::transactions::{
