@@ -8,11 +8,11 @@ ghost use Rattle.at_adsp_ends.specs.Calls.{heeding, listened, unread_at};
 ghost use Rattle.at_adsp_ends.specs.Tables.{AreEnds, AreRooms, by_id, by_remote, has_remote_at};
 ghost use Rattle.at_adsp_ends.specs.Tables.{next_id, no_ends};
 
-use crate::identifiers::{FIRST, free_id};
+use crate::identifiers::{FIRST, following, is_used};
 use crate::remotes::{Remotes, forget, id_under};
 use crate::standing::{Standing, any_at_from, end_named, index_of, limits_from};
 use at_adsp_end::{End, Remote, Rooms, StreamFault, Tick};
-use at_ddp::Address;
+use at_ddp::{Address, first_free};
 use at_table::Table;
 use indexmap::IndexMap;
 use std::alloc::{Allocator, Global};
@@ -87,7 +87,12 @@ impl<A: Allocator + Copy> Ends<A> {
     {
         let count = self.ends.len();
         if count < MAX_ENDS {
-            free_id(&self.ends, self.next, count + 1)
+            first_free(
+                self.next,
+                count + 1,
+                following,
+                |id| is_used(&self.ends, id),
+            )
         } else {
             None
         }

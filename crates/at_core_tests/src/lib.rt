@@ -17,6 +17,8 @@ mod listed_names;
 #[cfg(test)]
 mod names;
 #[cfg(test)]
+mod numbers;
+#[cfg(test)]
 mod pages;
 #[cfg(test)]
 mod responder;

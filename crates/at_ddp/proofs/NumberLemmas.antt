@@ -7,8 +7,8 @@ use Rattle.std.proofs.lemmas.Bool.{eqb-true, ne_eqb}
 use Rattle.at_ddp.specs.Numbers.{first_free}
 use Rattle.at_ddp.proofs.CountLemmas.{tests_in_use}
 
-pub first_free-step : (following : ℕ → ℕ) (in_use : ℕ → Bool) (tries first : ℕ) (b : Bool) → (tries ≡ 0 → ⊥)
-    → in_use first ≡ b
+pub first_free-step : {N : Type 0} (following : N → N) (in_use : N → Bool) (tries : ℕ) (first : N) (b : Bool)
+    → (tries ≡ 0 → ⊥) → in_use first ≡ b
     → first_free following in_use tries first
     ≡ cond b (first_free following in_use (tries - 1) (following first)) (Some first)
 first_free-step following in_use zero first b some is = absurd (some refl)

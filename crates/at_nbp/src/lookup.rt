@@ -4,7 +4,7 @@ ghost use Rattle.std.specs.Prelude.{Some, None, Err, IfOk, IfErr, IfSome, OnOk, 
 ghost use Rattle.std.specs.List.{list_any, position_from};
 ghost use Rattle.std.specs.Option.{option_copied};
 ghost use Rattle.at_ddp.specs.Outbox.{Sends};
-ghost use Rattle.at_nbp.specs.Lookups.{begun, beginning, closed, counted, finds_in, free_id, has_id, heard};
+ghost use Rattle.at_nbp.specs.Lookups.{begun, beginning, closed, counted, finds_in, has_id, heard};
 ghost use Rattle.at_nbp.specs.Lookups.{AreLookups, is_question, next_id, search_of, sent_question};
 ghost use Rattle.at_nbp.specs.Packets.{packet_content};
 
@@ -15,7 +15,7 @@ use crate::function::Function;
 use crate::name::Name;
 use crate::packet::Packet;
 use crate::search::Search;
-use at_ddp::{Address, Outbox};
+use at_ddp::{Address, Outbox, first_free};
 use std::alloc::{AllocError, Allocator, Global};
 use std::marker::Model;
 
@@ -86,7 +86,12 @@ impl<A: Allocator + Copy> Lookup<A> {
     {
         let open = self.searches.len();
         if open < MAX_LOOKUPS {
-            free_id(&self.searches, self.next, open + 1)
+            first_free(
+                self.next,
+                open + 1,
+                |id| id.wrapping_add(1),
+                |id| is_open(&self.searches, id),
+            )
         } else {
             None
         }
@@ -202,19 +207,6 @@ impl<A: Allocator + Copy> Lookup<A> {
     {
         let tuple = search.tuple(self.own);
         send_one(self.alloc, self.function, search.id, &tuple, self.to, out)
-    }
-}
-
-// The first identifier from `first` on that is not open, if it takes at most `tries` tries.
-fn free_id<A: Allocator>(searches: &[Search<A>], first: u8, tries: usize) -> Option<u8>
-    ensures { result ≡ free_id tries first searches.now }
-{
-    if tries == 0 {
-        None
-    } else if is_open(searches, first) {
-        free_id(searches, first.wrapping_add(1), tries - 1)
-    } else {
-        Some(first)
     }
 }
 

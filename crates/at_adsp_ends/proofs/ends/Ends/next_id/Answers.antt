@@ -1,6 +1,7 @@
-use Rattle.std.proofs.Common.{◌≡◌, ◌+◌, None, length, arith, ap, sym, ◌∙◌}
+use Rattle.std.proofs.Common.{◌≡◌, ◌+◌, None, length, arith, ap, rules, sym, ◌∙◌}
+use Rattle.std.specs.List.{list_any}
 use Rattle.at_adsp_ends.proofs.Places.{table}
-use Rattle.at_adsp_ends.specs.Tables.{EndTable, free_id}
+use Rattle.at_adsp_ends.specs.Tables.{EndTable, following, free_id, has_id}
 use Rattle.at_adsp_ends.proofs.IdLemmas.{tried}
 use Rattle.at_adsp_ends.proofs.ends.Ends.next_id.Goals as goal
 
@@ -11,7 +12,8 @@ returns-then-count-lt-MAX_ENDS-clause-none g c =
     let count : c.len-count.result ≡ length t.ends = c.len-count.ensures.items in (
       λ none.
           let tries : free_id (c.len-count.result + 1) t.next t.ends
-          ≡ None = sym c.free_id.ensures ∙ none in
+          ≡ None = sym (c.first_free.ensures following (λ id. list_any (has_id id) t.ends)
+          (λ n after h. search rules) (λ n is h. search rules)) ∙ none in
           let most = tried (c.len-count.result + 1) t.next t.ends (omega (arith, c.if-count-lt-MAX_ENDS.true)) tries in
           absurd (omega (arith, most, count)),
       λ full. absurd (omega (arith, full, few, count, c.if-count-lt-MAX_ENDS.true)),

@@ -1,5 +1,6 @@
-use Rattle.std.proofs.Common.{◌≡◌, ◌+◌, None, length, arith, ap, sym, ◌∙◌}
-use Rattle.at_nbp.specs.Lookups.{Lookups, free_id}
+use Rattle.std.proofs.Common.{◌≡◌, ◌+◌, ◌%◌, None, length, arith, ap, rules, sym, ◌∙◌}
+use Rattle.std.specs.List.{list_any}
+use Rattle.at_nbp.specs.Lookups.{Lookups, free_id, has_id}
 use Rattle.at_nbp.proofs.AskingLemmas.{tried}
 use Rattle.at_nbp.proofs.lookup.Lookup.next_id.Goals as goal
 
@@ -18,8 +19,8 @@ returns-then-open-lt-MAX_LOOKUPS-clause-none g c =
     ≡ length l.searches = omega (arith, c.len-open.ensures, c.self.inside.searches.ok.0) in (
       λ none.
           let tries : free_id (c.len-open.result + 1) l.next l.searches
-          ≡ None = ap (free_id (c.len-open.result + 1) l.next) (sym c.deref.ensures.value) ∙ sym c.free_id.ensures
-          ∙ none in
+          ≡ None = sym (c.first_free.ensures (λ id. (id + 1) % 256) (λ id. list_any (has_id id) l.searches)
+          (λ n after h. search rules) (λ n is h. search rules)) ∙ none in
           let most = tried (c.len-open.result + 1) l.next l.searches
           (omega (arith, c.if-open-lt-MAX_LOOKUPS.true)) tries in
           absurd (omega (arith, most, count)),
