@@ -2,7 +2,8 @@
 use Rattle.std.proofs.Common.{◌≡◌, ℕ, suc, ◌+◌, true, false, List, [], ◌∷◌, ◌++◌, length, refl}
 use Rattle.std.proofs.Common.{sym, ap, ◌∙◌, arith}
 use Rattle.std.proofs.lemmas.Bool.{true≢false}
-use Rattle.at_ddp.specs.Outbox.{Outbox, bytes_in}
+use Rattle.at_ddp.specs.Outbox.{Outbox}
+use Rattle.at_ddp.specs.Sending.{bytes_in}
 use Rattle.at_ddp.specs.declared.address.Address.{Address}
 use Rattle.at_adsp_frame.specs.Segments.{Content, Data, fields_of, spelled}
 use Rattle.at_adsp_end.specs.Cuts.{Piece, bytes_of, items_of, numbered}

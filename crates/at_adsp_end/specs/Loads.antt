@@ -1,6 +1,7 @@
 -- How much memory the packets of an end take.
 use Rattle.std.specs.Prelude.{◌≡◌, List, ◌++◌, length}
-use Rattle.at_ddp.specs.Outbox.{Outbox, HasRoomToSend, bytes_in}
+use Rattle.at_ddp.specs.Outbox.{Outbox}
+use Rattle.at_ddp.specs.Sending.{HasRoomToSend, bytes_in}
 use Rattle.at_ddp.specs.declared.address.Address.{Address}
 use Rattle.at_adsp_frame.specs.Segments.{Content}
 use Rattle.at_adsp_end.specs.Ends.{addressed, spelled_all}

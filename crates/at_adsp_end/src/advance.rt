@@ -1,6 +1,6 @@
 //! Acknowledgements, and what is sent because of them.
 ghost use Rattle.std.specs.Prelude.{◌≡◌, ◌+◌, ◌*◌, ◌<◌, List, ◌++◌, [], length, take, OnOk, IsOk};
-ghost use Rattle.at_ddp.specs.Outbox.{Sends};
+ghost use Rattle.at_ddp.specs.Sending.{Sends};
 ghost use Rattle.at_adsp_frame.specs.Segments.{Content};
 ghost use Rattle.at_adsp_end.specs.Ends.{SendsTo};
 ghost use Rattle.at_adsp_end.specs.Loads.{HasRoomTo, IsLoad, LeavesRoom};

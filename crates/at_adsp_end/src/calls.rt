@@ -1,6 +1,6 @@
 //! The calls and the timers of an end.
 ghost use Rattle.std.specs.Prelude.{◌≡◌, ◌≢◌, ◌++◌, [], length, take, drop, IfOk, OnErr, OnOk, IsOk};
-ghost use Rattle.at_ddp.specs.Outbox.{Sends};
+ghost use Rattle.at_ddp.specs.Sending.{Sends};
 ghost use Rattle.at_adsp_end.specs.Calls.{probes, read_opens, reading, ticked, writing};
 ghost use Rattle.at_adsp_end.specs.Ends.{SendsTo, places};
 ghost use Rattle.at_adsp_end.specs.Loads.{HasRoomTo};

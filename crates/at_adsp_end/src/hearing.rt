@@ -1,7 +1,7 @@
 //! What segments do at an open end.
 ghost use Rattle.std.specs.Prelude.{◌≡◌, ◌==◌, [], length, false, IfOk, OnErr};
 ghost use Rattle.std.specs.Prelude.{IsOk};
-ghost use Rattle.at_ddp.specs.Outbox.{Sends};
+ghost use Rattle.at_ddp.specs.Sending.{Sends};
 ghost use Rattle.at_adsp_frame.specs.Segments.{content};
 ghost use Rattle.at_adsp_end.specs.Cuts.{items_in};
 ghost use Rattle.at_adsp_end.specs.Ends.{SendsTo};

@@ -1,6 +1,6 @@
 //! How much memory packets take.
 ghost use Rattle.std.specs.Prelude.{◌≡◌, ◌+◌, ◌<◌, ◌^◌, List, ◌∷◌, ◌++◌, [], length, OnOk, IsOk};
-ghost use Rattle.at_ddp.specs.Outbox.{Sends};
+ghost use Rattle.at_ddp.specs.Sending.{Sends};
 ghost use Rattle.at_ddp.specs.declared.address.Address.{Address};
 ghost use Rattle.at_adsp_frame.specs.Segments.{Content, fields_of};
 ghost use Rattle.at_adsp_end.specs.Ends.{EndState};

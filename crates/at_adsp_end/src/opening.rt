@@ -1,6 +1,6 @@
 //! The opening of an end.
 ghost use Rattle.std.specs.Prelude.{◌≡◌, ◌∷◌, [], IfOk, OnErr, IsOk};
-ghost use Rattle.at_ddp.specs.Outbox.{Sends};
+ghost use Rattle.at_ddp.specs.Sending.{Sends};
 ghost use Rattle.at_adsp_end.specs.Ends.{confirming};
 ghost use Rattle.at_adsp_end.specs.Loads.{HasRoomTo};
 ghost use Rattle.at_adsp_end.specs.Moves.{IsOutcome, opened};

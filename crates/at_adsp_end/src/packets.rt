@@ -1,6 +1,6 @@
 //! The packets of an end.
 ghost use Rattle.std.specs.Prelude.{◌≡◌, ◌≤◌, List, ◌∷◌, [], length, false, OnOk, OnErr, IsOk};
-ghost use Rattle.at_ddp.specs.Outbox.{Sends};
+ghost use Rattle.at_ddp.specs.Sending.{Sends};
 ghost use Rattle.at_adsp_frame.specs.Segments.{Content, data_of, part};
 ghost use Rattle.at_adsp_end.specs.Ends.{SendsTo, acknowledging, answering, asking, confirming, control, free, id_of};
 ghost use Rattle.at_adsp_end.specs.Ends.{packet};

@@ -1,6 +1,6 @@
 //! What forward resets and their answers do at an open end.
 ghost use Rattle.std.specs.Prelude.{◌≡◌, ◌≢◌, ◌&&◌, ◌==◌, [], false, IfOk, OnErr, IsOk};
-ghost use Rattle.at_ddp.specs.Outbox.{Sends};
+ghost use Rattle.at_ddp.specs.Sending.{Sends};
 ghost use Rattle.at_adsp_end.specs.Ends.{free, next_unsent};
 ghost use Rattle.at_adsp_end.specs.Hearing.{answer_came, forward, reset_came};
 ghost use Rattle.at_adsp_end.specs.Loads.{HasRoomTo};

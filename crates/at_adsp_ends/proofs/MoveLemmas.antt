@@ -4,7 +4,8 @@ use Rattle.std.proofs.Common.{sym, ap, subst, ◌∙◌}
 use Rattle.std.specs.Prelude.{remove, IfOk, IsOk, OnErr, OnOk, Result, Ok, Err}
 use Rattle.std.specs.Result.{IsErr, is_ok}
 use Rattle.std.proofs.lemmas.Bool.{true≢false}
-use Rattle.at_ddp.specs.Outbox.{HasRoomToSend, Outbox, Sends}
+use Rattle.at_ddp.specs.Outbox.{Outbox}
+use Rattle.at_ddp.specs.Sending.{HasRoomToSend, Sends}
 use Rattle.at_ddp.specs.declared.address.Address.{Address}
 use Rattle.at_ddp.proofs.OutboxLemmas.{sends_nothing}
 use Rattle.at_adsp_frame.specs.Segments.{Content}

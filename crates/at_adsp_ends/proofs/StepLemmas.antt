@@ -7,7 +7,8 @@ use Rattle.std.proofs.Math.Seq.{take-append_seam}
 use Rattle.std.proofs.lemmas.Bool.{and_parts, true≢false}
 use Rattle.std.proofs.lemmas.List.{length-take}
 use Rattle.at_ddp.specs.Address.{same_address}
-use Rattle.at_ddp.specs.Outbox.{HasRoomToSend, Outbox}
+use Rattle.at_ddp.specs.Outbox.{Outbox}
+use Rattle.at_ddp.specs.Sending.{HasRoomToSend}
 use Rattle.at_adsp_frame.specs.Segments.{Content, spelled}
 use Rattle.at_adsp_end.specs.Calls.{is_idle, is_last, probed, reading, ticked, writing}
 use Rattle.at_adsp_end.specs.Ends.{EndState, confirming, denying, has_remote, is_closed, is_opening, spelled_all}

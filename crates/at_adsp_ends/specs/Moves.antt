@@ -1,6 +1,7 @@
 -- That a table moved as it was to move, and sent what it was to send.
 use Rattle.std.specs.Prelude.{◌≡◌, ℕ, List, [], take, Result, Ok, Err}
-use Rattle.at_ddp.specs.Outbox.{Outbox, Sends}
+use Rattle.at_ddp.specs.Outbox.{Outbox}
+use Rattle.at_ddp.specs.Sending.{Sends}
 use Rattle.at_adsp_end.specs.Ends.{spelled_all}
 use Rattle.at_adsp_end.specs.declared.fault.StreamFault.{StreamFault}
 use Rattle.at_adsp_end.specs.declared.fault.StreamFault.TheVariants.{NoMemory}

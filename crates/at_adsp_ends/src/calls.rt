@@ -1,6 +1,6 @@
 //! The calls and the timers.
 ghost use Rattle.std.specs.Prelude.{◌≡◌, ◌≤◌, length, drop, IfOk, IsOk, OnErr};
-ghost use Rattle.at_ddp.specs.Outbox.{HasRoomToSend};
+ghost use Rattle.at_ddp.specs.Sending.{HasRoomToSend};
 ghost use Rattle.at_adsp_end.specs.Ends.{spelled_all};
 ghost use Rattle.at_adsp_end.specs.Positions.{wire};
 ghost use Rattle.at_adsp_ends.specs.Calls.{closed_at, connected, finds_no_room, frees, read_at, reset_at, ticked_at};

@@ -1,7 +1,7 @@
 //! The packets that open a connection.
 ghost use Rattle.std.specs.Prelude.{◌≡◌, ◌==◌, ◌&&◌, ◌∷◌, [], not, IsOk, OnErr, OnOk, if◌then◌else◌, None};
 ghost use Rattle.at_ddp.specs.Address.{same_address};
-ghost use Rattle.at_ddp.specs.Outbox.{HasRoomToSend, Sends};
+ghost use Rattle.at_ddp.specs.Sending.{HasRoomToSend, Sends};
 ghost use Rattle.at_adsp_frame.specs.Segments.{content, spelled};
 ghost use Rattle.at_adsp_end.specs.Ends.{denying, is_opening, spelled_all};
 ghost use Rattle.at_adsp_end.specs.Positions.{wire};

@@ -1,6 +1,6 @@
 //! Which end a segment is for. `openings.rt` has what opens a connection; all else is the end's own.
 ghost use Rattle.std.specs.Prelude.{◌≡◌, IsOk, None};
-ghost use Rattle.at_ddp.specs.Outbox.{HasRoomToSend};
+ghost use Rattle.at_ddp.specs.Sending.{HasRoomToSend};
 ghost use Rattle.at_adsp_frame.specs.Segments.{content};
 ghost use Rattle.at_adsp_end.specs.Ends.{spelled_all};
 ghost use Rattle.at_adsp_end.specs.Positions.{wire};

@@ -1,6 +1,6 @@
 //! The sending of one segment by an outbox. Its header is spelled in an array, so that only the outbox needs memory.
 ghost use Rattle.std.specs.Prelude.{ℕ, ◌+◌, ◌≤◌, List, ◌∷◌, [], length, OnOk, OnErr, IsOk};
-ghost use Rattle.at_ddp.specs.Outbox.{Sends, HasRoomFor, HasRoomToSend};
+ghost use Rattle.at_ddp.specs.Sending.{Sends, HasRoomFor, HasRoomToSend};
 ghost use Rattle.at_ddp.specs.declared.address.Address.{Address as Destination};
 ghost use Rattle.at_adsp_frame.specs.Segments.{content, data_of, part, spelled};
 

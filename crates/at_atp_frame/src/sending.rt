@@ -1,6 +1,6 @@
 //! The sending of one packet by an outbox, which alone needs memory.
 ghost use Rattle.std.specs.Prelude.{ℕ, ◌+◌, ◌≤◌, ◌∷◌, [], length, OnOk, OnErr, IsOk};
-ghost use Rattle.at_ddp.specs.Outbox.{Sends, HasRoomFor};
+ghost use Rattle.at_ddp.specs.Sending.{Sends, HasRoomFor};
 ghost use Rattle.at_atp_frame.specs.Frames.{content, CanBeWritten, data_of, spelled};
 
 use crate::frame::{Frame, data_in, header_of};

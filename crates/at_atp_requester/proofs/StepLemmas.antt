@@ -4,7 +4,8 @@ use Rattle.std.proofs.Common.{sym, ap, ◌∙◌, arith}
 use Rattle.std.specs.Prelude.{find, remove, IfOk}
 use Rattle.std.proofs.lemmas.List.{take-set, drop-set-lt}
 use Rattle.std.proofs.lemmas.Bool.{true≢false}
-use Rattle.at_ddp.specs.Outbox.{Outbox, Sends}
+use Rattle.at_ddp.specs.Outbox.{Outbox}
+use Rattle.at_ddp.specs.Sending.{Sends}
 use Rattle.at_ddp.specs.declared.address.Address.{Address}
 use Rattle.at_ddp.proofs.OutboxLemmas.{sends_nothing}
 use Rattle.at_atp_frame.specs.Packets.{Packet}

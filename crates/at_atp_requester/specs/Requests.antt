@@ -3,7 +3,8 @@ use Rattle.std.specs.Prelude.{◌≡◌, ℕ, zero, suc, ◌+◌, ◌%◌, ◌�
 use Rattle.std.specs.Prelude.{true, false, List, [], ◌∷◌, ◌++◌, length, find, option_map, replicate, Option, Some, None}
 use Rattle.std.specs.List.{list_any}
 use Rattle.at_ddp.specs.Address.{same_address}
-use Rattle.at_ddp.specs.Outbox.{Outbox, Sends}
+use Rattle.at_ddp.specs.Outbox.{Outbox}
+use Rattle.at_ddp.specs.Sending.{Sends}
 use Rattle.at_ddp.specs.declared.address.Address.{Address}
 use Rattle.at_atp_frame.specs.Packets.{Packet}
 use Rattle.at_atp_requester.specs.Answers.{AnswerPart, is_wanted, bitmap_of, whole, with_part}

@@ -1,7 +1,7 @@
 //! The requester of a socket: its open transactions and its calls. `turning.rt` has the turn from one to the next.
 ghost use Rattle.std.specs.Prelude.{◌≡◌, ◌≢◌, ◌↔◌, ◌+◌, ◌≤◌, ◌<◌, ◌∷◌, [], length, IfOk, IfErr};
 ghost use Rattle.std.specs.Prelude.{IfSome, OnErr, IsOk, IsErrOf, true, Some, None, slice_get};
-ghost use Rattle.at_ddp.specs.Outbox.{Sends};
+ghost use Rattle.at_ddp.specs.Sending.{Sends};
 ghost use Rattle.at_ddp.specs.declared.address.Address.{Address as At};
 ghost use Rattle.at_atp_frame.specs.Frames.{Content, content, number_of, spelled};
 ghost use Rattle.at_atp_requester.specs.Requests.{no_requests, next_number, closing, beginning, begun, request_by};

@@ -1,7 +1,7 @@
 //! One open transaction: what it asked, what came for it, and what is still wanted.
 ghost use Rattle.std.specs.Prelude.{◌≡◌, ◌+◌, ◌-◌, ◌≤◌, ◌<◌, ◌∷◌, ◌&&◌, Bool, not, nat_lt, if◌then◌else◌, ℕ, List};
 ghost use Rattle.std.specs.Prelude.{length, is_some, Some, None, IfOk, OnOk, OnErr, IsOk, true, false, []};
-ghost use Rattle.at_ddp.specs.Outbox.{Sends};
+ghost use Rattle.at_ddp.specs.Sending.{Sends};
 ghost use Rattle.at_atp_frame.specs.Packets.{Packet as Arrived};
 ghost use Rattle.at_atp_requester.specs.Answers.{AnswerPart, is_wanted, whole, with_part};
 ghost use Rattle.at_atp_frame.specs.Frames.{content, CanBeWritten, data_of, spelled_all};

@@ -2,7 +2,7 @@
 //! that asks for page after page. Nothing of the answer is copied.
 ghost use Rattle.std.specs.Prelude.{◌≡◌, ◌∷◌, [], true, false, is_some, Some, IfSome, IfOk, OnErr};
 ghost use Rattle.std.specs.Prelude.{IsSome};
-ghost use Rattle.at_ddp.specs.Outbox.{Sends};
+ghost use Rattle.at_ddp.specs.Sending.{Sends};
 ghost use Rattle.at_atp_frame.specs.Frames.{Response, content, spelled};
 ghost use Rattle.at_atp_requester.specs.Requests.{closing, next_number, beginning, begun, request_by};
 ghost use Rattle.at_atp_requester.specs.Requests.{finishes, has_number, heard, is_response};

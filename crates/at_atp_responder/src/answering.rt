@@ -1,7 +1,7 @@
 //! Answers to requests that wait, and room for an answer.
 ghost use Rattle.std.specs.Prelude.{◌≡◌, ◌≤◌, ℕ, [], true, length, find, IfOk, IfErr, IfSome, OnOk, OnErr};
 ghost use Rattle.std.specs.Prelude.{IsOk, None, Some, Err};
-ghost use Rattle.at_ddp.specs.Outbox.{Sends, HasRoomFor};
+ghost use Rattle.at_ddp.specs.Sending.{Sends, HasRoomFor};
 ghost use Rattle.at_atp_frame.specs.Frames.{spelled_all};
 ghost use Rattle.at_atp_responder.specs.Records.{fit, is_key, record_fault, answer_fault, asked_bitmap, asked_for};
 ghost use Rattle.at_atp_responder.specs.Records.{IsAnswered};

@@ -2,7 +2,7 @@
 //! then.
 ghost use Rattle.std.specs.Prelude.{◌≡◌, ◌≤◌, [], true, false, None, Some, find, length};
 ghost use Rattle.std.specs.Prelude.{IfOk, IfSome, IsSome, OnErr, OnOk};
-ghost use Rattle.at_ddp.specs.Outbox.{Sends};
+ghost use Rattle.at_ddp.specs.Sending.{Sends};
 ghost use Rattle.at_atp_frame.specs.Frames.{content, spelled_all};
 ghost use Rattle.at_atp_responder.specs.AtOnce.{at_least_once, taken_new};
 ghost use Rattle.at_atp_responder.specs.Records.{finds_no_place, fit, is_key, is_new_and_full, responses, received};

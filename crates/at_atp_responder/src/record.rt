@@ -1,7 +1,7 @@
 //! One request that came, and what became of it: it waits, it is answered, or its answer arrived.
 ghost use Rattle.std.specs.Prelude.{◌≡◌, ℕ, ◌+◌, ◌≤◌, ◌∷◌, [], length, true, false, if◌then◌else◌, IfOk, OnErr, IsOk};
 ghost use Rattle.std.specs.Prelude.{None};
-ghost use Rattle.at_ddp.specs.Outbox.{Sends, HasRoomFor};
+ghost use Rattle.at_ddp.specs.Sending.{Sends, HasRoomFor};
 ghost use Rattle.at_atp_frame.specs.Frames.{Response, spelled_all};
 ghost use Rattle.at_atp_responder.specs.Records.{Waiting, Answered, fit, responses, state_fault};
 ghost use Rattle.at_atp_responder.specs.Records.{expiry_fault_of, asked_bitmap, keeps_answer, repeated, released};

@@ -4,7 +4,7 @@ ghost use Rattle.std.specs.Prelude.{◌==◌, ◌&&◌};
 ghost use Rattle.std.specs.Prelude.{IfOk, IfErr, IfSome, OnOk, OnErr, IsOk, IsErrOf, Some, None};
 ghost use Rattle.std.specs.List.{list_any, position_from};
 ghost use Rattle.std.specs.Option.{option_copied};
-ghost use Rattle.at_ddp.specs.Outbox.{Sends};
+ghost use Rattle.at_ddp.specs.Sending.{Sends};
 ghost use Rattle.at_atp_responder.specs.Records.{Record as Kept, repeated, request_came, release_came};
 ghost use Rattle.at_atp_responder.specs.Records.{is_new_and_full, IsRepeat, Waiting, is_key};
 ghost use Rattle.at_atp_responder.specs.Records.{state_fault, record_fault, expiry_fault, asked_bitmap};

@@ -2,7 +2,7 @@
 ghost use Rattle.std.specs.Prelude.{◌≡◌, ◌≢◌, ◌↔◌, [], true, find, is_some, IfOk, IfErr, IfSome, OnOk, OnErr, IsOk};
 ghost use Rattle.std.specs.Prelude.{IsErrOf, None, Err, ◌<◌, length, slice_get};
 ghost use Rattle.std.specs.List.{list_any};
-ghost use Rattle.at_ddp.specs.Outbox.{Sends};
+ghost use Rattle.at_ddp.specs.Sending.{Sends};
 ghost use Rattle.at_atp_frame.specs.Frames.{content, number_of};
 ghost use Rattle.at_atp_responder.specs.Records.{is_from, is_key, received, finds_no_place, record_fault, expiry_fault};
 ghost use Rattle.at_atp_responder.specs.Records.{IsTaken, expiring_key};

@@ -3,7 +3,7 @@ use Rattle.std.proofs.Common.{◌≡◌, ℕ, Bool, true, false, cond, List, [],
 use Rattle.std.proofs.Common.{refl, sym, ap, ◌∙◌}
 use Rattle.std.specs.Prelude.{find, map, remove, option_map}
 use Rattle.std.specs.List.{position_from}
-use Rattle.at_ddp.specs.Datagrams.{Posted}
+use Rattle.at_ddp.specs.Outbox.{Posted}
 use Rattle.at_ddp.specs.Tables.{without_first}
 use Rattle.at_ddp.proofs.TableLemmas.{found_by, none_by, without_none}
 use Rattle.at_cable.specs.Memory.{MemoryState, Receives, begun, fails, is_for}

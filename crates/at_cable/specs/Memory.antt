@@ -1,7 +1,7 @@
 -- A cable in memory: what was sent waits for each node in turn, and one call may be made to fail.
 use Rattle.std.specs.Prelude.{◌≡◌, ℕ, ◌+◌, ◌-◌, ◌==◌, ◌||◌, nat_le, min, if◌then◌else◌, Bool, true, false, List, ◌++◌}
 use Rattle.std.specs.Prelude.{map, filter, find, take, Option, Some, None, Result, Ok, Err}
-use Rattle.at_ddp.specs.Datagrams.{Posted}
+use Rattle.at_ddp.specs.Outbox.{Posted}
 use Rattle.at_ddp.specs.Tables.{without_first}
 use Rattle.at_cable.specs.Calls.{last_count}
 use Rattle.at_cable.specs.declared.fault.CableFault.{CableFault}

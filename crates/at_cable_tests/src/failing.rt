@@ -4,7 +4,7 @@ use crate::schedules::{
     steps_of,
 };
 use at_cable::{Cable, MemoryCable};
-use at_ddp::Datagrams;
+use at_ddp::Outbox;
 use at_drive::{Log, Step};
 use at_setup::Setup;
 use std::alloc::{AllocError, Global};
@@ -110,7 +110,7 @@ fn calls_of(alloc: Global, steps: &[Step], log: &Log) -> Result<Vec<usize>, Allo
 }
 
 // How many calls of the cable a step makes: a poll makes one, and each datagram that is sent another.
-fn calls_in(step: &Step, sent: &Datagrams) -> usize {
+fn calls_in(step: &Step, sent: &Outbox) -> usize {
     let polls = usize::from(matches!(step, Step::Poll { .. }));
     polls.saturating_add(sent.len())
 }

@@ -1,5 +1,5 @@
 //! Checksums, a datagram without data, and the memory that datagrams take.
-use at_ddp::{Address, Datagrams, DdpFault, Outbox, decode, encode, rotating_sum};
+use at_ddp::{Address, DdpFault, Outbox, decode, encode, rotating_sum};
 use std::fs;
 use std::process::Abort;
 use std::rt::Files;
@@ -45,6 +45,21 @@ fn a_datagram_without_data_is_its_header(rt: HostRuntime) {
 }
 
 #[test]
+fn each_datagram_is_from_the_socket_that_named_itself_last(rt: HostRuntime) {
+    let mut out = Outbox::new(rt.alloc());
+    assert!(rt; out.is_empty());
+    out.send_from(ASKER, 3);
+    assert!(rt; out.push(ROUTER, b"ask") == Ok(()));
+    out.send_from(ROUTER, 7);
+    assert!(rt; out.push(ASKER, b"answer") == Ok(()));
+    let (first, _) = decode(out.get(0)).expect(&rt, "no datagram");
+    assert!(rt; (first.to, first.from, first.kind, first.data_) == (ROUTER, ASKER, 3, &b"ask"[..]));
+    let (second, _) = decode(out.get(1)).expect(&rt, "no datagram");
+    assert!(rt; (second.to, second.from, second.kind) == (ASKER, ROUTER, 7));
+    assert!(rt; (out.node(0), out.node(1)) == (1, 5));
+}
+
+#[test]
 fn twelve_bytes_are_too_short_for_a_datagram(rt: HostRuntime) {
     assert!(rt; decode(&EMPTY[..12]) == Err(DdpFault::Short));
 }
@@ -60,13 +75,14 @@ fn most_memory<R: Files + AllocGlobal + Abort>(rt: &R) -> u64 {
 #[test]
 fn a_million_datagrams_of_30_bytes_take_less_than_100_megabytes(rt: HostRuntime) {
     let before = most_memory(&rt);
-    let mut out = Outbox::over(Datagrams::new(rt.alloc()), ASKER, 3);
+    let mut out = Outbox::new(rt.alloc());
+    out.send_from(ASKER, 3);
     // There is room for half of the pushes, so that the list grows for the others.
     assert!(rt; out.room(500_000, 17) == Ok(()));
     for _ in 0..1_000_000u32 {
         assert!(rt; out.push(ROUTER, &[0; 17]) == Ok(()));
     }
-    assert!(rt; out.into_list().len() == 1_000_000);
+    assert!(rt; out.len() == 1_000_000);
     let taken = most_memory(&rt).saturating_sub(before);
     assert!(rt; 30_000 < taken && taken < 100_000);
 }

@@ -2,7 +2,7 @@
 use crate::chance::following;
 use at_adsp_ends::{EndChange, Ends, MAX_ENDS, Remote, Rooms};
 use at_adsp_frame::{Body, OpenKind, Segment};
-use at_ddp::{Address, Datagrams, Outbox};
+use at_ddp::{Address, Outbox};
 use std::process::Abort;
 
 /// The address of all ends.
@@ -109,7 +109,8 @@ fn some_end(plain: &PlainEnds, number: u32) -> u16 {
 
 // One call or segment, which the number tells.
 fn call<R: AllocGlobal + Abort>(rt: &R, ends: &mut Ends, plain: &mut PlainEnds, number: u32) {
-    let mut out = Outbox::over(Datagrams::new(rt.alloc()), HERE, 7);
+    let mut out = Outbox::new(rt.alloc());
+    out.send_from(HERE, 7);
     let remote = remote_of(number >> 8);
     let dest = some_end(plain, number >> 16);
     let kind = match number >> 29 {

@@ -1,6 +1,6 @@
 //! The finds of a lookup beside the plain list that their contracts speak of, over the same replies.
 use crate::chance::following;
-use at_ddp::{Address, Datagrams, Outbox, Pascal};
+use at_ddp::{Address, Outbox, Pascal};
 use at_nbp::{Find, Function, Lookup, MAX_FINDS, Name, Tuple, decode, encode};
 use std::alloc::Global;
 use std::process::Abort;
@@ -74,7 +74,8 @@ fn keep_plainly(rt: &impl Abort, plain: &mut Vec<Find>, find: &Find) -> usize {
 
 // A lookup of anything, which is open, and its identifier.
 fn open_lookup(rt: &impl Abort, alloc: Global) -> (Lookup, u8) {
-    let mut out = Outbox::over(Datagrams::new(alloc), OWN, 2);
+    let mut out = Outbox::new(alloc);
+    out.send_from(OWN, 2);
     let mut lookup = Lookup::new(alloc, OWN, OWN, Function::LookUp);
     let id = lookup.start(anything(rt), &mut out);
     (lookup, id.expect(rt, "no lookup"))

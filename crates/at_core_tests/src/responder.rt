@@ -1,7 +1,7 @@
 //! The records of the side that answers.
 use at_atp_frame::{Frame, Packet};
 use at_atp_responder::{Key, NewRequest, Reception, Responder};
-use at_ddp::{Address, Bytes, Datagrams, Outbox};
+use at_ddp::{Address, Bytes, Outbox};
 use std::alloc::Global;
 use std::process::Abort;
 
@@ -33,7 +33,8 @@ const REQUEST: Frame<'static> = Frame::Request {
 
 // A request that comes for the first time gets a record.
 fn receive(rt: &impl Abort, alloc: Global, answerer: &mut Responder) {
-    let mut out = Outbox::over(Datagrams::new(alloc), SERVER, 3);
+    let mut out = Outbox::new(alloc);
+    out.send_from(SERVER, 3);
     let reception = answerer.receive(ASKER, &REQUEST, &mut out);
     assert!(rt; reception == Ok(Reception::New(KEY)));
 }
@@ -60,10 +61,11 @@ fn a_new_request_is_answered_without_a_record(rt: HostRuntime) {
     );
     let bytes = Bytes::copy_of(rt.alloc(), b"Lab").expect(&rt, "out of memory");
     let packets = [Packet::new([1, 0, 0, 1], bytes)];
-    let mut out = Outbox::over(Datagrams::new(rt.alloc()), SERVER, 3);
+    let mut out = Outbox::new(rt.alloc());
+    out.send_from(SERVER, 3);
     let sent = Responder::answer_at_once(request, &packets, &mut out);
     assert!(rt; sent == Ok(1));
-    assert!(rt; out.into_list().len() == 1);
+    assert!(rt; out.len() == 1);
     assert!(rt; !answerer.holds(KEY));
 }
 

@@ -1,6 +1,6 @@
 //! What an open stream asks of memory: room for what it sends, and nothing else.
 use at_adsp_ends::{Ends, Item, Rooms};
-use at_ddp::{ADSP, Address, Datagrams, Outbox, decode};
+use at_ddp::{ADSP, Address, Outbox, decode};
 use refusing::Refusing;
 use std::alloc::Global;
 use std::process::Abort;
@@ -28,7 +28,9 @@ const FIRST: u16 = 1;
 type Heap<'a> = &'a Refusing<Global>;
 
 fn outbox(heap: Heap<'_>, from: Address) -> Outbox<Heap<'_>> {
-    Outbox::over(Datagrams::new(heap), from, ADSP)
+    let mut out = Outbox::new(heap);
+    out.send_from(from, ADSP);
+    out
 }
 
 // A table hears a datagram. There is nothing if memory is refused.
@@ -46,10 +48,9 @@ fn deliver<'a>(
     own: Address,
     ends: &mut Ends<Heap<'a>>,
 ) -> Option<Outbox<Heap<'a>>> {
-    let list = sent.into_list();
     let mut answers = outbox(heap, own);
-    for index in 0..list.len() {
-        hear(list.get(index), ends, &mut answers)?;
+    for index in 0..sent.len() {
+        hear(sent.get(index), ends, &mut answers)?;
     }
     Some(answers)
 }

@@ -1,7 +1,7 @@
 //! Ends whose sequence numbers begin again at 0. What an end sent and expects is seen by what its timers send.
 use at_adsp_end::{End, EndChange, Item, Remote, Rooms, Tick};
 use at_adsp_frame::{Body, Segment};
-use at_ddp::{Address, Datagrams, HEADER_LEN, Outbox};
+use at_ddp::{Address, HEADER_LEN, Outbox};
 use std::process::Abort;
 
 /// The socket of the other end.
@@ -40,7 +40,9 @@ fn heard(items: u16) -> EndChange {
 }
 
 fn outbox<R: AllocGlobal>(rt: &R) -> Outbox {
-    Outbox::over(Datagrams::new(rt.alloc()), HOST, 7)
+    let mut out = Outbox::new(rt.alloc());
+    out.send_from(HOST, 7);
+    out
 }
 
 // An open end whose next item has the last number but one in both directions. It may send as many items as this window
@@ -53,10 +55,9 @@ fn end_with<R: AllocGlobal + Abort>(rt: &R, window: u16) -> End {
 
 // The segments that were sent are these.
 fn sends<R: Abort>(rt: &R, out: Outbox, want: &[&[u8]]) {
-    let list = out.into_list();
-    assert!(rt; list.len() == want.len());
-    for index in 0..list.len() {
-        assert!(rt; list.get(index).get(HEADER_LEN..) == want.get(index).copied());
+    assert!(rt; out.len() == want.len());
+    for index in 0..out.len() {
+        assert!(rt; out.get(index).get(HEADER_LEN..) == want.get(index).copied());
     }
 }
 

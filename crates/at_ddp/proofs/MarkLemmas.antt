@@ -6,9 +6,9 @@ use Rattle.std.specs.Option.{option_map_or}
 use Rattle.std.proofs.lemmas.Option.{slice_get_within, slice_get_cases}
 use Rattle.std.proofs.lemmas.List.{length-append, take-append-le, drop-append-le, length-drop, take_rest}
 use Rattle.std.proofs.Math.Seq.{drop-append_seam, drop-append-add}
-use Rattle.at_ddp.specs.Datagrams.{Posted}
+use Rattle.at_ddp.specs.Outbox.{Posted}
 use Rattle.at_ddp.specs.Marks.{pieces, AreMarks, behind, start_at}
-use Rattle.at_ddp.specs.declared.datagrams.Mark.{Mark}
+use Rattle.at_ddp.specs.declared.outbox.Mark.{Mark}
 
 pub length-pieces : (start : ℕ) (ms : List Mark) (bytes : List ℕ) → length (pieces start ms bytes) ≡ length ms
 length-pieces start [] bytes = refl

@@ -2,7 +2,8 @@
 use Rattle.std.proofs.Common.{ℕ, List, [], ◌++◌, refl, sym, ◌∙◌}
 use Rattle.std.specs.Prelude.{map}
 use Rattle.std.proofs.lemmas.List.{append-nil}
-use Rattle.at_ddp.specs.Outbox.{Outbox, Sends, finished}
+use Rattle.at_ddp.specs.Outbox.{Outbox}
+use Rattle.at_ddp.specs.Sending.{Sends, finished}
 use Rattle.at_ddp.specs.declared.address.Address.{Address}
 
 pub sends_nothing : (o : Outbox) → Sends o o []

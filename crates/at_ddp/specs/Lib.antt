@@ -1,13 +1,13 @@
 pub mod Address
 pub mod Bits
 pub mod Datagram
-pub mod Datagrams
 pub mod Fault
 pub mod Marks
 pub mod Numbers
 pub mod Outbox
 pub mod Posts
 pub mod Protocols
+pub mod Sending
 pub mod Sum
 pub mod Tables
 pub mod Text

@@ -1,8 +1,8 @@
 -- How finished datagrams lie in memory one behind the other.
 use Rattle.std.specs.Prelude.{◌≡◌, ℕ, zero, suc, ◌+◌, ◌≤◌, List, [], ◌∷◌, slice_get, slice_range}
 use Rattle.std.specs.Option.{option_map_or}
-use Rattle.at_ddp.specs.Datagrams.{Posted}
-use Rattle.at_ddp.specs.declared.datagrams.Mark.{Mark}
+use Rattle.at_ddp.specs.Outbox.{Posted}
+use Rattle.at_ddp.specs.declared.outbox.Mark.{Mark}
 
 -- the bytes from start on, cut at the marks
 abbrev pub pieces : ℕ → List Mark → List ℕ → List Posted

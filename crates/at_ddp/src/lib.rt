@@ -1,11 +1,10 @@
 //! Datagrams of AppleTalk's Datagram Delivery Protocol (DDP), and what all layers above share. These are addresses,
-//! short strings, lists that contracts compare, the list of finished datagrams, and the outbox that a layer sends by.
+//! short strings, lists that contracts compare, and the outbox with what a node sends.
 #![tactic(auto)]
 
 mod address;
 mod bytes;
 mod datagram;
-mod datagrams;
 mod fault;
 pub mod laws;
 mod listed;
@@ -13,13 +12,13 @@ mod numbers;
 mod outbox;
 mod pascal;
 mod protocol;
+mod sending;
 mod sum;
 mod text;
 
 pub use address::Address;
 pub use bytes::Bytes;
 pub use datagram::{Datagram, HEADER_LEN, MAX_DATA, decode, encode};
-pub use datagrams::Datagrams;
 pub use fault::DdpFault;
 pub use listed::Listed;
 pub use numbers::first_free;

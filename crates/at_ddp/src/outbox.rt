@@ -1,114 +1,194 @@
-//! A node's list of datagrams, while one of its sockets appends to it.
-ghost use Rattle.std.specs.Prelude.{◌≡◌, ℕ, ◌+◌, ◌≤◌, List, ◌∷◌, [], ◌++◌, length, OnOk, OnErr, IsOk};
-ghost use Rattle.at_ddp.specs.Outbox.{Sends, HasRoomFor, HasRoomForData, HasRoomToSend};
-ghost use Rattle.at_ddp.specs.declared.address.Address.{Address as Destination};
+//! Finished datagrams in the order of sending, each with the node that it goes to.
+ghost use Rattle.std.specs.Prelude.{◌≡◌, ℕ, ◌+◌, ◌<◌, ◌≤◌, ◌∷◌, [], ◌++◌, ◌==◌, length, slice_get};
+ghost use Rattle.std.specs.Prelude.{◌^◌, map, All, OnOk, OnErr, IsOk, Some, vec_capacity, vec_len};
+ghost use Rattle.at_ddp.specs.Outbox.{HasRoom, Posted};
+ghost use Rattle.at_ddp.specs.Marks.{behind, start_at};
+ghost use Rattle.at_ddp.specs.declared.outbox.Mark.{Mark};
 
 use crate::address::Address;
-use crate::datagram::{HEADER_LEN, header_of};
-use crate::datagrams::Datagrams;
 use std::alloc::{AllocError, Allocator, Global};
 use std::marker::Model;
-use std::mem;
 
-/// The list that a node's datagrams go to, while one socket of the node appends to it.
+// Where a datagram ends in the bytes of all datagrams, and the node that it goes to.
+#[derive(Clone, Copy)]
+struct Mark {
+    end: usize,
+    node: u8,
+}
+
+/// Finished datagrams in the order of sending, each with the node that it goes to. A socket names itself by `send_from`
+/// before it sends. The bytes of the datagrams lie one behind the other.
 #[derive(Drop)]
 pub struct Outbox<A: Allocator = Global> {
-    list: Datagrams<A>,
-    from: Address,
-    kind: u8,
+    bytes: Vec<u8, A>,
+    marks: Vec<Mark, A>,
+    pub(crate) from: Address,
+    pub(crate) kind: u8,
 }
 
 impl<A: Allocator> Model for Outbox<A> {
+    ghost use Rattle.std.specs.Prelude.{◌-◌, vec_len, vec_capacity, length};
     ghost use Rattle.at_ddp.specs.Outbox.{Outbox as Box};
 
     ghost Value = { Box };
 
-    ghost view = { λ o. record { items = o.list.items; from = o.from; kind = o.kind; room = o.list.room } };
+    ghost use Rattle.at_ddp.specs.Marks.{pieces, AreMarks};
+
+    ghost view = { λ o. record {
+      items = pieces 0 o.marks.items o.bytes.items;
+      from = o.from;
+      kind = o.kind;
+      room = record { places = vec_capacity o.marks - vec_len o.marks; bytes = vec_capacity o.bytes - vec_len o.bytes };
+    } };
+
+    ghost invariant = { λ o. AreMarks 0 o.marks.items (length o.bytes.items) };
 }
 
 impl<A: Allocator + Copy> Outbox<A> {
-    /// Takes over a list, which is empty until the outbox gives it back by `into_list`. The socket `from` sends
-    /// datagrams of protocol `kind`.
-    pub fn lent(alloc: A, list: &mut Datagrams<A>, from: Address, kind: u8) -> Outbox<A>
-        ensures items { result.items ≡ list.old.items }
-        ensures from { result.from ≡ from }
-        ensures kind { result.kind ≡ kind }
-        ensures room { result.room ≡ list.old.room }
+    /// An outbox without datagrams, and without a socket that sends: its address and its protocol are 0.
+    pub fn new(alloc: A) -> Outbox<A>
+        ensures items { result.items ≡ [] }
+        ensures from { result.from ≡ record { net = 0; node = 0; socket = 0 } }
+        ensures kind { result.kind ≡ 0 }
     {
-        Outbox::over(mem::replace(list, Datagrams::new(alloc)), from, kind)
+        Outbox {
+            bytes: Vec::new(alloc),
+            marks: Vec::new(alloc),
+            from: Address {
+                net: 0,
+                node: 0,
+                socket: 0,
+            },
+            kind: 0,
+        }
     }
 }
 
 impl<A: Allocator> Outbox<A> {
-    /// Takes over a list. The socket `from` sends datagrams of protocol `kind`, and each push goes to the end of the
-    /// list.
-    pub fn over(list: Datagrams<A>, from: Address, kind: u8) -> Outbox<A>
-        ensures { result ≡ record { items = list.items; from = from; kind = kind; room = list.room } }
+    pub fn len(&self) -> usize
+        ensures { result ≡ length self.now.items }
     {
-        Outbox { list, from, kind }
+        self.marks.len()
     }
 
-    /// Appends a finished datagram with at most 586 bytes of data. The error is out of memory.
-    pub fn push(&mut self, to: Address, bytes: &[u8]) -> Result<(), AllocError>
-        requires { length bytes.now ≤ 586 }
-        ensures ok { OnOk result (Sends self.old self.new ((to, bytes.now) ∷ [])) }
-        ensures err { OnErr result (Sends self.old self.new []) }
-        ensures kept { OnErr result ((n size : ℕ) → HasRoomFor self.old n size → HasRoomFor self.new n size) }
-        ensures kept_data { OnErr result ((n data_ : ℕ) → HasRoomForData self.old n data_
-            → HasRoomForData self.new n data_) }
-        ensures room { (n size : ℕ) → HasRoomFor self.old (n + 1) size → length bytes.now ≤ size → IsOk result
-            × HasRoomFor self.new n size }
-        ensures rest { (rest : List (Destination × List ℕ)) → HasRoomToSend self.old ((to, bytes.now) ∷ rest)
-            → IsOk result × HasRoomToSend self.new rest }
+    pub fn is_empty(&self) -> bool
+        ensures { result ≡ (length self.now.items == 0) }
     {
-        self.push_parts(to, bytes, &[])
+        self.len() == 0
     }
 
-    /// Appends a finished datagram with at most 586 bytes of data, which come in two parts. The error is out of memory.
-    pub fn push_parts(&mut self, to: Address, front: &[u8], back: &[u8]) -> Result<(), AllocError>
-        requires { length front.now + length back.now ≤ 586 }
-        ensures ok { OnOk result (Sends self.old self.new ((to, front.now ++ back.now) ∷ [])) }
-        ensures err { OnErr result (Sends self.old self.new []) }
-        ensures kept { OnErr result ((n size : ℕ) → HasRoomFor self.old n size → HasRoomFor self.new n size) }
-        ensures kept_data { OnErr result ((n data_ : ℕ) → HasRoomForData self.old n data_
-            → HasRoomForData self.new n data_) }
-        ensures room { (n size : ℕ) → HasRoomFor self.old (n + 1) size → length front.now + length back.now ≤ size
-            → IsOk result × HasRoomFor self.new n size }
-        ensures rest { (rest : List (Destination × List ℕ))
-            → HasRoomToSend self.old ((to, front.now ++ back.now) ∷ rest) → IsOk result × HasRoomToSend self.new rest }
+    /// The node that the datagram at an index goes to.
+    pub fn node(&self, index: usize) -> u8
+        requires { index < length self.now.items }
+        ensures { (p : Posted) × (slice_get self.now.items index ≡ Some p) × (result ≡ p.node) }
     {
-        let header = header_of(to, self.from, self.kind, front, back);
-        self.list.push(to.node, &header, front, back)
+        self.marks[index].node
     }
 
-    /// Makes room for `pushes` pushes of at most `size` bytes of data each, which then cannot run out of memory.
-    pub fn room(&mut self, pushes: u32, size: usize) -> Result<(), AllocError>
-        requires { size ≤ 586 }
-        ensures ok { OnOk result (HasRoomFor self.new pushes size) }
-        ensures stays { Sends self.old self.new [] }
-        ensures kept { (n len : ℕ) → HasRoomFor self.old n len → HasRoomFor self.new n len }
-        ensures succeeds { HasRoomFor self.old pushes size → IsOk result }
+    /// The bytes of the datagram at an index.
+    pub fn get(&self, index: usize) -> &[u8]
+        requires { index < length self.now.items }
+        ensures { (p : Posted) × (slice_get self.now.items index ≡ Some p) × (result.now ≡ p.bytes) }
     {
-        let total = pushes as usize * (HEADER_LEN + size);
-        self.list.reserve(pushes, total)
+        let (start, end) = span(&self.marks, index);
+        &self.bytes[start..end]
     }
 
-    /// Makes room for `pushes` pushes with `data_` bytes of data in all, which then cannot run out of memory.
-    pub fn room_for_data(&mut self, pushes: u32, data_: u32) -> Result<(), AllocError>
-        ensures ok { OnOk result (HasRoomForData self.new pushes data_) }
-        ensures stays { Sends self.old self.new [] }
-        ensures kept { (n len : ℕ) → HasRoomForData self.old n len → HasRoomForData self.new n len }
-        ensures succeeds { HasRoomForData self.old pushes data_ → IsOk result }
+    /// Makes room for `places` datagrams, with so many bytes in all. The error is out of memory.
+    pub fn reserve(&mut self, places: u32, bytes: usize) -> Result<(), AllocError>
+        ensures items { self.new.items ≡ self.old.items }
+        ensures from { self.new.from ≡ self.old.from }
+        ensures kind { self.new.kind ≡ self.old.kind }
+        ensures ok { OnOk result (HasRoom self.new.room places bytes) }
+        ensures kept { (n len : ℕ) → HasRoom self.old.room n len → HasRoom self.new.room n len }
+        ensures succeeds { HasRoom self.old.room places bytes → IsOk result }
     {
-        let bytes = pushes as usize * HEADER_LEN + data_ as usize;
-        self.list.reserve(pushes, bytes)
+        self.marks.reserve(places as usize)?;
+        self.bytes.reserve(bytes)
     }
 
-    /// Gives back the list, with the pushed datagrams at its end.
-    pub fn into_list(self) -> Datagrams<A>
-        ensures items { result.items ≡ self.items }
-        ensures room { result.room ≡ self.room }
+    /// Appends a finished datagram in three parts.
+    pub(crate) fn post(
+        &mut self,
+        node: u8,
+        header: &[u8],
+        front: &[u8],
+        back: &[u8],
+    ) -> Result<(), AllocError>
+        requires { length header.now + length front.now + length back.now ≤ 599 }
+        ensures ok { OnOk result (self.new.items
+            ≡ self.old.items ++ record { node = node; bytes = header.now ++ (front.now ++ back.now) } ∷ []) }
+        ensures err { OnErr result (self.new.items ≡ self.old.items) }
+        ensures from { self.new.from ≡ self.old.from }
+        ensures kind { self.new.kind ≡ self.old.kind }
+        ensures kept { OnErr result ((n len : ℕ) → HasRoom self.old.room n len → HasRoom self.new.room n len) }
+        ensures room { (n len : ℕ)
+            → HasRoom self.old.room (n + 1) (length header.now + length front.now + length back.now + len)
+            → IsOk result × HasRoom self.new.room n len }
     {
-        self.list
+        self.reserve(1, header.len() + front.len() + back.len())?;
+        self.bytes.extend_from_slice(header).unwrap();
+        self.bytes.extend_from_slice(front).unwrap();
+        self.bytes.extend_from_slice(back).unwrap();
+        let end = self.bytes.len();
+        self.marks.push(Mark { end, node }).unwrap();
+        Ok(())
     }
+
+    /// Moves all datagrams of another outbox to the end of this one. The other keeps its room, and each its socket. The
+    /// error is out of memory.
+    pub fn append(&mut self, other: &mut Outbox<A>) -> Result<(), AllocError>
+        ensures ok { OnOk result
+            ((self.new.items ≡ self.old.items ++ other.old.items) × (other.new.items ≡ [])) }
+        ensures err { OnErr result
+            ((self.new.items ≡ self.old.items) × (other.new.items ≡ other.old.items)) }
+        ensures from { (self.new.from ≡ self.old.from) × (other.new.from ≡ other.old.from) }
+        ensures kind { (self.new.kind ≡ self.old.kind) × (other.new.kind ≡ other.old.kind) }
+    {
+        self.marks.reserve(other.marks.len())?;
+        self.bytes.reserve(other.bytes.len())?;
+        push_marks(&mut self.marks, &other.marks, self.bytes.len());
+        self.bytes.extend_from_slice(&other.bytes).unwrap();
+        other.clear();
+        Ok(())
+    }
+
+    /// Takes all datagrams out, and keeps the room and the socket.
+    pub fn clear(&mut self)
+        ensures items { self.new.items ≡ [] }
+        ensures from { self.new.from ≡ self.old.from }
+        ensures kind { self.new.kind ≡ self.old.kind }
+    {
+        self.bytes.clear();
+        self.marks.clear();
+    }
+}
+
+// Appends these marks, which count from the byte at `base` on. The list has room for them.
+fn push_marks<A: Allocator>(marks: &mut Vec<Mark, A>, others: &[Mark], base: usize)
+    requires room { vec_len marks.old + length others.now ≤ vec_capacity marks.old }
+    requires fits { All (λ (m : Mark). base + m.end < 2 ^ 64) others.now }
+    ensures { marks.new.items ≡ marks.old.items ++ map (behind base) others.now }
+{
+    for mark in others {
+        marks
+            .push(Mark {
+                end: base + mark.end,
+                node: mark.node,
+            })
+            .unwrap();
+    }
+}
+
+/// Where the bytes of the datagram at an index begin and end.
+fn span(marks: &[Mark], index: usize) -> (usize, usize)
+    requires { index < length marks.now }
+    ensures start { result.0 ≡ start_at 0 marks.now index }
+    ensures end { (m : Mark) × (slice_get marks.now index ≡ Some m) × (result.1 ≡ m.end) }
+{
+    let start = match index {
+        0 => 0,
+        _ => marks[index - 1].end,
+    };
+    (start, marks[index].end)
 }

@@ -5,7 +5,7 @@ use Rattle.std.specs.Prelude.{Result, Option, min}
 use Rattle.std.proofs.lemmas.List.{length-append}
 use Rattle.at_cable.specs.Calls.{IsCounted, last_count}
 use Rattle.at_cable.specs.declared.fault.CableFault.{CableFault}
-use Rattle.at_ddp.specs.Datagrams.{Posted}
+use Rattle.at_ddp.specs.Outbox.{Posted}
 use Rattle.at_event.specs.declared.Report.{Report}
 use Rattle.at_node.specs.Nodes.{NodeState}
 use Rattle.at_steps.specs.Safety.{TransactionTable}

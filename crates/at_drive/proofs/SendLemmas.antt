@@ -5,7 +5,7 @@ use Rattle.std.specs.Prelude.{Result, slice_get}
 use Rattle.std.proofs.lemmas.List.{take_more}
 use Rattle.std.proofs.lemmas.Option.{get_or_from_slice_get}
 use Rattle.at_cable.specs.declared.fault.CableFault.{CableFault}
-use Rattle.at_ddp.specs.Datagrams.{Posted}
+use Rattle.at_ddp.specs.Outbox.{Posted}
 use Rattle.at_drive.specs.Sendings.{Sends, fault_of}
 
 module _ {C : Type 0} (S : C → ℕ → ℕ → List ℕ → Result (Unit {0}) CableFault → C → Type 0) (at from : ℕ) where

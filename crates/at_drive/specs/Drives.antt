@@ -3,7 +3,7 @@
 use Rattle.std.specs.Prelude.{◌≡◌, ℕ, ◌+◌, ◌⊎◌, Bool, false, List, [], ◌∷◌, ◌++◌, map, find, take, slice_get}
 use Rattle.std.specs.Prelude.{Option, Some, None, Result, Ok, Err}
 use Rattle.at_cable.specs.declared.fault.CableFault.{CableFault}
-use Rattle.at_ddp.specs.Datagrams.{Datagrams, Posted}
+use Rattle.at_ddp.specs.Outbox.{Outbox, Posted}
 use Rattle.at_ddp.specs.Tables.{replaced}
 use Rattle.at_event.specs.Outcomes.{IsStep}
 use Rattle.at_event.specs.declared.Report.{Report}
@@ -23,7 +23,7 @@ use Rattle.at_drive.specs.declared.step.Step.TheVariants as step
 
 pub record Logged (A : Type 0) : Type 0 where
   pub reports : List (Report A)  -- of each call and timer, and of each poll at which a datagram came
-  pub sent : List Datagrams  -- what was sent with each of these reports
+  pub sent : List Outbox  -- what was sent with each of these reports
   pub arrived : List Came  -- what came, with the place of its poll
   pub faults : List ℕ  -- the place of the step of each failed call of the cable
 
@@ -70,7 +70,7 @@ pub record Plays {A C : Type 0} (S : C → ℕ → ℕ → List ℕ → Result (
   pub stands : find (is_numbered k) d.nodes ≡ Some node
   pub report : Report A
   pub after : NodeState
-  pub out : Datagrams
+  pub out : Outbox
   pub steps : T node [] report after out.items
   pub safe : IsSafe Wants node report after out.items
   pub notes : List ℕ

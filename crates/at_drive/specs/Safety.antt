@@ -1,7 +1,7 @@
 -- What is promised of each event of a node that is driven, whatever comes. Out of memory and a refusal have no effect.
 -- A number that is told is that of a fault. The node keeps to its limits, and sends no more than 131,070 datagrams.
 use Rattle.std.specs.Prelude.{◌≡◌, ℕ, ◌≤◌, List, [], length, Some}
-use Rattle.at_ddp.specs.Datagrams.{Posted}
+use Rattle.at_ddp.specs.Outbox.{Posted}
 use Rattle.at_event.specs.declared.Report.{Report}
 use Rattle.at_event.specs.declared.Report.TheVariants as report
 use Rattle.at_node.specs.Limits.{IsWithin}

@@ -1,7 +1,7 @@
 -- The sends of a step.
 use Rattle.std.specs.Prelude.{◌≡◌, ℕ, List, [], ◌∷◌, ◌++◌, Result, Ok, Err}
 use Rattle.at_cable.specs.declared.fault.CableFault.{CableFault}
-use Rattle.at_ddp.specs.Datagrams.{Posted}
+use Rattle.at_ddp.specs.Outbox.{Posted}
 
 -- a call that failed is noted by the place of its step
 abbrev pub fault_of : {T : Type 0} → ℕ → Result T CableFault → List ℕ

@@ -4,7 +4,7 @@ ghost use Rattle.at_drive.specs.Drives.{logged, no_log};
 ghost use Rattle.at_drive.specs.Logs.{HasRoom, news_of, with_report};
 
 use crate::arrival::Arrival;
-use at_ddp::Datagrams;
+use at_ddp::Outbox;
 use at_event::Report;
 use std::alloc::{AllocError, Allocator, Global};
 use std::mem;
@@ -15,13 +15,13 @@ pub struct Log<A: Allocator = Global> {
     /// The report of each call, of each timer, and of each poll at which a datagram came.
     pub reports: Vec<Report<A>, A>,
     /// What was sent with each of these reports. A datagram is listed whether or not its send failed.
-    pub sent: Vec<Datagrams<A>, A>,
+    pub sent: Vec<Outbox<A>, A>,
     /// What came at each poll at which a datagram came.
     pub arrived: Vec<Arrival<A>, A>,
     /// For each failed call of the cable, the place of its step.
     pub faults: Vec<usize, A>,
     // What was cleared. The next steps use its room.
-    past_sent: Vec<Datagrams<A>, A>,
+    past_sent: Vec<Outbox<A>, A>,
     past_arrived: Vec<Arrival<A>, A>,
 }
 
@@ -48,12 +48,12 @@ impl<A: Allocator + Copy> Log<A> {
     }
 
     // An empty list for what a step sends, in the room of one that was cleared, if there is one.
-    pub(crate) fn empty_list(&mut self, alloc: A) -> Datagrams<A>
+    pub(crate) fn empty_list(&mut self, alloc: A) -> Outbox<A>
         ensures list { result.items ≡ [] }
         ensures log { logged self.new ≡ logged self.old }
     {
         match self.past_sent.pop() {
-            None => Datagrams::new(alloc),
+            None => Outbox::new(alloc),
             Some(mut list) => {
                 list.clear();
                 list
@@ -103,7 +103,7 @@ impl<A: Allocator> Log<A> {
     }
 
     // Adds a report, what was sent with it, and what had come.
-    pub(crate) fn push(&mut self, report: Report<A>, out: Datagrams<A>, news: Option<Arrival<A>>)
+    pub(crate) fn push(&mut self, report: Report<A>, out: Outbox<A>, news: Option<Arrival<A>>)
         requires { HasRoom self.old }
         ensures { logged self.new ≡ with_report (logged self.old) report out (news_of news) }
     {

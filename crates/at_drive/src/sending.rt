@@ -4,14 +4,14 @@ ghost use Rattle.at_cable.specs.declared.fault.CableFault.{CableFault as Fault};
 ghost use Rattle.at_drive.specs.Sendings.{Sends, fault_of};
 
 use at_cable::{Cable, CableFault};
-use at_ddp::Datagrams;
+use at_ddp::Outbox;
 use std::alloc::Allocator;
 
 /// Sends each datagram of a node once, in order. Each send that fails is noted, and the others follow it all the same.
 pub(crate) fn send_all<A: Allocator, C: Cable>(
     cable: &mut C,
     from: u8,
-    out: &Datagrams<A>,
+    out: &Outbox<A>,
     at: usize,
     faults: &mut Vec<usize, A>,
 )

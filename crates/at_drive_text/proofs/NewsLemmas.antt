@@ -8,7 +8,7 @@ use Rattle.std.proofs.lemmas.Option.{slice_get-get_or}
 use Rattle.std.specs.List.{flat_map}
 use Rattle.std.specs.Prelude.{slice_get, Option, Some, None, codes, if◌then◌else◌}
 use Rattle.std.specs.Fmt.{decimal}
-use Rattle.at_ddp.specs.Datagrams.{Datagrams, Posted}
+use Rattle.at_ddp.specs.Outbox.{Outbox, Posted}
 use Rattle.at_drive.specs.Drives.{Logged}
 use Rattle.at_print.specs.Papers.{Page}
 use Rattle.at_print.specs.Printers.{Prints}
@@ -61,7 +61,7 @@ same_numbers n m (p ∷ ps) same =
 pub from_number : (n : ℕ) (ps : List Posted) → datagram_lines (number_of n) ps ≡ datagram_lines n ps
 from_number n ps = same_numbers (number_of n) n ps (omega arith)
 
-sent_from : (n : ℕ) (o : Option Datagrams) → sent_part (number_of n) o ≡ sent_part n o
+sent_from : (n : ℕ) (o : Option Outbox) → sent_part (number_of n) o ≡ sent_part n o
 sent_from n None = refl
 sent_from n (Some out) = from_number n out.items
 

@@ -6,7 +6,7 @@ use Rattle.std.specs.Prelude.{IsOk, false, true}
 use Rattle.std.specs.Fmt.{decimal}
 use Rattle.std.specs.List.{All, flat_map}
 use Rattle.at_cable.specs.declared.fault.CableFault.{CableFault}
-use Rattle.at_ddp.specs.Datagrams.{Datagrams, Posted}
+use Rattle.at_ddp.specs.Outbox.{Outbox, Posted}
 use Rattle.at_event.specs.declared.Report.{Report}
 use Rattle.at_setup.specs.declared.setup.Setup.{Setup}
 use Rattle.at_drive.specs.Drives.{Driven as Nodes, Drives, IsLeft, Logged, no_log, opening_nodes_of, with_log}
@@ -43,12 +43,12 @@ abbrev pub report_part : {A : Type 0} → ℕ → Option (Report A) → List ℕ
 report_part at None = []
 report_part at (Some r) = event_line at r
 
-abbrev pub sent_part : ℕ → Option Datagrams → List ℕ
+abbrev pub sent_part : ℕ → Option Outbox → List ℕ
 sent_part n None = []
 sent_part n (Some out) = datagram_lines n out.items
 
 -- how many datagrams these are
-abbrev pub sent_count : Option Datagrams → ℕ
+abbrev pub sent_count : Option Outbox → ℕ
 sent_count None = 0
 sent_count (Some out) = length out.items
 

@@ -7,7 +7,7 @@ ghost use Rattle.at_print.specs.Printers.{Prints};
 ghost use Rattle.at_drive_text.specs.Driven.{datagram_lines, fault_line, is_idle, news_text, number_of};
 ghost use Rattle.at_drive_text.specs.Driven.{report_part, sent_count, sent_part};
 
-use at_ddp::Datagrams;
+use at_ddp::Outbox;
 use at_drive::Log;
 use at_event::Report;
 use at_print::{Paper, Part, Printer, write_datagram, write_event};
@@ -54,11 +54,7 @@ fn write_report<A: Allocator, W: Paper>(printer: &mut Printer<W>, at: usize, rep
     }
 }
 
-fn write_sent<A: Allocator, W: Paper>(
-    printer: &mut Printer<W>,
-    number: usize,
-    sent: &[Datagrams<A>],
-)
+fn write_sent<A: Allocator, W: Paper>(printer: &mut Printer<W>, number: usize, sent: &[Outbox<A>])
     ensures { Prints W.page printer.old printer.new (sent_part number (slice_get sent.now 0)) }
 {
     match sent.first() {
@@ -67,11 +63,7 @@ fn write_sent<A: Allocator, W: Paper>(
     }
 }
 
-fn write_datagrams<A: Allocator, W: Paper>(
-    printer: &mut Printer<W>,
-    first: usize,
-    out: &Datagrams<A>,
-)
+fn write_datagrams<A: Allocator, W: Paper>(printer: &mut Printer<W>, first: usize, out: &Outbox<A>)
     ensures { Prints W.page printer.old printer.new (datagram_lines first out.now.items) }
 {
     for index in 0..out.len() {

@@ -1,7 +1,7 @@
 -- What comes of an event, at a node or at one of its parts.
 use Rattle.std.specs.Prelude.{MatchBool, ◌≡◌, ℕ, Bool, true, false, List, [], ◌++◌, map, Option, Some, None}
 use Rattle.at_ddp.specs.Datagram.{canonical}
-use Rattle.at_ddp.specs.Datagrams.{Posted}
+use Rattle.at_ddp.specs.Outbox.{Posted}
 use Rattle.at_ddp.specs.declared.address.Address.{Address}
 use Rattle.at_event.specs.Kinds.{takes_memory}
 use Rattle.at_event.specs.declared.Report.{Report}

@@ -3,7 +3,7 @@ use Rattle.std.proofs.Common.{◌≡◌, ◌∙◌, ◌≤◌, ◌∷◌, ◌++�
 use Rattle.std.proofs.Common.{sym, suc, zero, subst, append_assoc, append-nil, arith}
 use Rattle.std.specs.Prelude.{MatchBool}
 use Rattle.std.specs.declared.alloc.Global.{Global}
-use Rattle.at_ddp.specs.Datagrams.{Posted}
+use Rattle.at_ddp.specs.Outbox.{Posted}
 use Rattle.at_event.specs.Outcomes.{Comes, Exactly, IsStep, Outcome, posted, wants_memory}
 use Rattle.at_event.specs.Kinds.{takes_memory}
 use Rattle.at_event.specs.declared.Report.{Report}

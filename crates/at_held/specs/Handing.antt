@@ -2,7 +2,7 @@
 use Rattle.std.specs.Prelude.{◌≡◌, ℕ, List, [], ◌∷◌, length, Option, Some, None, Result, Ok, Err}
 use Rattle.std.specs.List.{flat_map}
 use Rattle.std.specs.declared.alloc.Global.{Global}
-use Rattle.at_ddp.specs.Datagrams.{Posted}
+use Rattle.at_ddp.specs.Outbox.{Posted}
 use Rattle.at_event.specs.declared.Report.{Report}
 use Rattle.at_held.specs.Held.{HeldState, refusal_in}
 use Rattle.at_held.specs.Rooms.{Fits, IsPlaced, IsTooLong, placed}

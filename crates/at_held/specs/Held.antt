@@ -1,7 +1,7 @@
 -- A node in the hands of a program: what is kept of it, and what an event does to it.
 use Rattle.std.specs.Prelude.{◌≡◌, ◌⊎◌, ℕ, false, true, List, [], Option, Some, None, Result, Ok, Err}
 use Rattle.std.specs.declared.alloc.Global.{Global}
-use Rattle.at_ddp.specs.Datagrams.{Posted}
+use Rattle.at_ddp.specs.Outbox.{Posted}
 use Rattle.at_event.specs.Outcomes.{IsStep, wants_memory}
 use Rattle.at_event.specs.Kinds.{takes_memory}
 use Rattle.at_event.specs.declared.Timer.{Timer}

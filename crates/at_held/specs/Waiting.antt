@@ -1,6 +1,6 @@
 -- The datagrams of a node that wait to be taken, and what is kept beside them.
 use Rattle.std.specs.Prelude.{◌≡◌, ℕ, ◌<◌, List, [], ◌++◌}
-use Rattle.at_ddp.specs.Datagrams.{Posted}
+use Rattle.at_ddp.specs.Outbox.{Posted}
 
 pub record Kept : Type 0 where
   pub taken : ℕ  -- how many are kept of which the memory is not freed yet, though they are taken

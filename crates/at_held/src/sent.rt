@@ -1,11 +1,11 @@
 //! What a node sent and nobody took yet.
 ghost use Rattle.std.specs.Prelude.{◌≡◌, ◌≢◌, ◌<◌, ◌∷◌, [], List, MatchOption, drop, length};
-ghost use Rattle.at_ddp.specs.Datagrams.{Posted};
+ghost use Rattle.at_ddp.specs.Outbox.{Posted};
 ghost use Rattle.at_held.specs.Waiting.{nothing_kept, waiting_of};
 ghost use Rattle.at_node.specs.Limits.{IsWithin};
 ghost use Rattle.at_nodes.specs.Taking.{Takes};
 
-use at_ddp::Datagrams;
+use at_ddp::Outbox;
 use at_event::Report;
 use at_node::{Input, Node};
 use at_nodes::take;
@@ -19,10 +19,10 @@ use std::mem;
 /// sends no more than before asks for none.
 #[derive(Drop)]
 pub(crate) struct Sent {
-    earlier: Datagrams,
+    earlier: Outbox,
     // How many of the earlier list are taken.
     taken: usize,
-    later: Datagrams,
+    later: Outbox,
 }
 
 impl Model for Sent {
@@ -46,9 +46,9 @@ impl Sent {
         ensures { result ≡ nothing_kept }
     {
         Sent {
-            earlier: Datagrams::new(alloc),
+            earlier: Outbox::new(alloc),
             taken: 0,
-            later: Datagrams::new(alloc),
+            later: Outbox::new(alloc),
         }
     }
 

@@ -5,7 +5,8 @@ use Rattle.std.specs.Prelude.{find, slice_get, IfSome, Result, Ok, Err}
 use Rattle.std.specs.List.{position_from}
 use Rattle.std.proofs.lemmas.Bool.{eqb-true}
 use Rattle.at_ddp.proofs.TableLemmas.{found, none_by, without_none}
-use Rattle.at_ddp.specs.Outbox.{Outbox, Sends}
+use Rattle.at_ddp.specs.Outbox.{Outbox}
+use Rattle.at_ddp.specs.Sending.{Sends}
 use Rattle.at_ddp.specs.declared.address.Address.{Address}
 use Rattle.at_name_socket.specs.NameSockets.{Ending, IsEnding, SocketState, claim_ended, claim_fault, closing, ended}
 use Rattle.at_name_socket.specs.NameSockets.{ending, fault_of, finish, finds_told, finish_fault, is_claim, relayed_in}

@@ -2,7 +2,7 @@
 ghost use Rattle.std.specs.Prelude.{◌≡◌, ◌≢◌, ◌≤◌, ◌<◌, ◌↔◌, ◌||◌, ◌∷◌, [], length, find, Option, IfOk, IfErr};
 ghost use Rattle.std.specs.Prelude.{IfSome, OnErr, IsErrOf, IsSome, Some, None, Err, true, false};
 ghost use Rattle.std.specs.List.{position_from};
-ghost use Rattle.at_ddp.specs.Outbox.{Sends};
+ghost use Rattle.at_ddp.specs.Sending.{Sends};
 ghost use Rattle.at_name_socket.specs.NameSockets.{IsEnding, any_pattern, claim_begun, closing, finish, taker};
 ghost use Rattle.at_name_socket.specs.NameSockets.{finds_told, finish_fault, is_claim};
 ghost use Rattle.at_name_socket.specs.declared.claim.Claim.{Claim as Claimed};

@@ -2,7 +2,7 @@
 ghost use Rattle.std.specs.Prelude.{◌≡◌, ◌≢◌, ◌==◌, [], List, ℕ, length, find, IfOk, IfErr, OnErr};
 ghost use Rattle.std.specs.Prelude.{IsErrOf, IsOk, None};
 ghost use Rattle.std.specs.Option.{option_copied};
-ghost use Rattle.at_ddp.specs.Outbox.{Sends};
+ghost use Rattle.at_ddp.specs.Sending.{Sends};
 ghost use Rattle.at_ddp.specs.declared.address.Address.{Address as At};
 ghost use Rattle.at_name_socket.specs.NameSockets.{AnswersTo, Hears, Relays, SocketState, Takes};
 ghost use Rattle.at_name_socket.specs.NameSockets.{is_node, zone_of};

@@ -1,7 +1,7 @@
 //! The socket of a node for names, and the calls that only one of its tables has a part in.
 ghost use Rattle.std.specs.Prelude.{◌≡◌, ◌≢◌, ◌≤◌, ◌↔◌, ◌∷◌, [], length, find, is_some, IfOk, IfErr, IfSome, OnOk};
 ghost use Rattle.std.specs.Prelude.{OnErr, IsOk, IsSome, IsErrOf, Some, None, Err, ◌<◌, slice_get};
-ghost use Rattle.at_ddp.specs.Outbox.{Sends};
+ghost use Rattle.at_ddp.specs.Sending.{Sends};
 ghost use Rattle.at_ddp.specs.Tables.{without_first};
 ghost use Rattle.at_name_socket.specs.NameSockets.{asked_by, asked_node, opening};
 ghost use Rattle.at_nbp.specs.Lookups.{AreLookups, beginning, begun, next_id, search_of, sent_question};

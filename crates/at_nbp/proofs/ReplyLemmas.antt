@@ -8,7 +8,8 @@ use Rattle.std.proofs.Math.Seq.{drop-nil}
 use Rattle.std.proofs.lemmas.List.{drop_all, length-append, length-map, length-take-le, map-append, take_more}
 use Rattle.std.proofs.lemmas.List.{take_rest}
 use Rattle.std.proofs.lemmas.List.Elements.{All-drop, All-push, All-take, filter-append}
-use Rattle.at_ddp.specs.Outbox.{Outbox, Sends, HasRoomFor, finished}
+use Rattle.at_ddp.specs.Outbox.{Outbox}
+use Rattle.at_ddp.specs.Sending.{Sends, HasRoomFor, finished}
 use Rattle.at_ddp.specs.declared.address.Address.{Address}
 use Rattle.at_nbp.specs.NameTables.{Table}
 use Rattle.at_nbp.specs.Names.{is_match}

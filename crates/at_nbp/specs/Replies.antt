@@ -1,7 +1,8 @@
 -- The replies to a lookup (Inside AppleTalk, NBP, "Name lookup").
 use Rattle.std.specs.Prelude.{◌≡◌, ℕ, ◌+◌, ◌<◌, ◌≤◌, ◌⊎◌, List, [], ◌∷◌, length, map, take, drop}
 use Rattle.std.specs.List.{filter, flat_map}
-use Rattle.at_ddp.specs.Outbox.{Outbox, Sends}
+use Rattle.at_ddp.specs.Outbox.{Outbox}
+use Rattle.at_ddp.specs.Sending.{Sends}
 use Rattle.at_ddp.specs.declared.address.Address.{Address}
 use Rattle.at_nbp.specs.NameTables.{Table}
 use Rattle.at_nbp.specs.Names.{is_match}

@@ -1,6 +1,6 @@
 //! Packets with one tuple, as lookups and routers send them.
 ghost use Rattle.std.specs.Prelude.{◌∷◌, [], OnOk, OnErr};
-ghost use Rattle.at_ddp.specs.Outbox.{Sends};
+ghost use Rattle.at_ddp.specs.Sending.{Sends};
 ghost use Rattle.at_nbp.specs.Packets.{spelling};
 ghost use Rattle.at_nbp.specs.Tuples.{FitsStrings, content};
 

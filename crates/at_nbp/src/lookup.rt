@@ -3,7 +3,7 @@ ghost use Rattle.std.specs.Prelude.{◌≡◌, ◌≢◌, ◌≤◌, ◌<◌, �
 ghost use Rattle.std.specs.Prelude.{Some, None, Err, IfOk, IfErr, IfSome, OnOk, OnErr, IsOk, IsSome, IsErrOf};
 ghost use Rattle.std.specs.List.{list_any, position_from};
 ghost use Rattle.std.specs.Option.{option_copied};
-ghost use Rattle.at_ddp.specs.Outbox.{Sends};
+ghost use Rattle.at_ddp.specs.Sending.{Sends};
 ghost use Rattle.at_nbp.specs.Lookups.{begun, beginning, closed, counted, finds_in, has_id, heard};
 ghost use Rattle.at_nbp.specs.Lookups.{AreLookups, is_question, next_id, search_of, sent_question};
 ghost use Rattle.at_nbp.specs.Packets.{packet_content};

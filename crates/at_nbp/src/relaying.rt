@@ -1,6 +1,6 @@
 //! What a router makes of a request to look a name up.
 ghost use Rattle.std.specs.Prelude.{◌≡◌, ◌∷◌, [], length, OnOk, OnErr};
-ghost use Rattle.at_ddp.specs.Outbox.{Sends};
+ghost use Rattle.at_ddp.specs.Sending.{Sends};
 ghost use Rattle.at_nbp.specs.Packets.{packet_content, spelling};
 ghost use Rattle.at_nbp.specs.Relays.{in_zone, relayed};
 ghost use Rattle.at_nbp.specs.Tuples.{FitsStrings, content};

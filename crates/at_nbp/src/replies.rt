@@ -1,6 +1,6 @@
 //! The replies to a lookup: the names that match, as many in each reply as fit.
 ghost use Rattle.std.specs.Prelude.{◌≡◌, ◌<◌, ◌≤◌, [], All, List, length, map, IfOk, IsOk, OnOk, OnErr};
-ghost use Rattle.at_ddp.specs.Outbox.{Sends};
+ghost use Rattle.at_ddp.specs.Sending.{Sends};
 ghost use Rattle.at_nbp.specs.Replies.{Answers, AreReplies, IsFull, entry_in, matching, name_in};
 ghost use Rattle.at_nbp.specs.Names.{is_match};
 ghost use Rattle.at_nbp.specs.Tuples.{Entry, FitsStrings, content};

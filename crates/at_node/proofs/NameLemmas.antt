@@ -2,8 +2,8 @@
 use Rattle.std.proofs.Common.{◌≡◌, ◌⊎◌, inl, inr, ℕ, true, false, List, [], ◌∷◌, Option, Some, None, refl, sym, ap}
 use Rattle.std.proofs.Common.{subst, ◌∙◌}
 use Rattle.std.specs.Prelude.{IfSome}
-use Rattle.at_ddp.specs.Datagrams.{Posted}
-use Rattle.at_ddp.specs.Outbox.{Outbox, Sends}
+use Rattle.at_ddp.specs.Outbox.{Posted, Outbox}
+use Rattle.at_ddp.specs.Sending.{Sends}
 use Rattle.at_ddp.specs.declared.address.Address.{Address}
 use Rattle.at_ddp.specs.Protocols.{nbp_kind}
 use Rattle.at_nbp.specs.Fault.{IsFirstFault, number_of}
@@ -25,15 +25,14 @@ use Rattle.at_event.proofs.PostLemmas.{posts}
 
 -- an open lookup was asked again
 pub again_sent : {A : Type 0} (s : Seat) (n : SocketState) (o : Option Search) (before after : Outbox)
-    (start items : List Posted) → (o ≡ None → ⊥) → IfSome o (λ x. Sends before after (sent_question n.lookups x ∷ [])) →
-    before.items ≡ start → before.from ≡ names_of s.net s.number → before.kind ≡ nbp_kind → items ≡ after.items
-    → Exactly (asked_again {A = A} s n o) start Again n items
-again_sent s n None before after start items some sends same from kind is = absurd (some refl)
-again_sent s n (Some x) before after start items some sends same from kind is = (
+    (start : List Posted) → (o ≡ None → ⊥) → IfSome o (λ x. Sends before after (sent_question n.lookups x ∷ [])) →
+    before.items ≡ start → before.from ≡ names_of s.net s.number → before.kind ≡ nbp_kind
+    → Exactly (asked_again {A = A} s n o) start Again n after.items
+again_sent s n None before after start some sends same from kind = absurd (some refl)
+again_sent s n (Some x) before after start some sends same from kind = (
   refl,
   refl,
-  posts before after (sent_question n.lookups x ∷ []) start items
-      (names_of s.net s.number) nbp_kind sends same from kind is,
+  posts before after (sent_question n.lookups x ∷ []) start (names_of s.net s.number) nbp_kind sends same from kind,
 )
 
 -- ---- packets
@@ -75,14 +74,14 @@ SomeStep n bytes = (h : Heard) × (new : SocketState) × (pushes : List (Address
 module _ (A : Type 0) (s : Seat) (n : SocketState) (bytes : List ℕ) (before : List Posted) where
   -- a packet was taken
   pub heard_comes : (h : Heard) (new : SocketState) (pushes : List (Address × List ℕ)) (box boxed : Outbox)
-      (after : List Posted) → SocketHears n bytes h new pushes → Sends box boxed pushes →
-      box.items ≡ before → box.from ≡ names_of s.net s.number → box.kind ≡ nbp_kind → after ≡ boxed.items
-      → Comes (HearsData {A = A} s n bytes) n before (told_by h) new after
-  heard_comes h new pushes box boxed after hears sends same from kind is =
+      → SocketHears n bytes h new pushes → Sends box boxed pushes →
+      box.items ≡ before → box.from ≡ names_of s.net s.number → box.kind ≡ nbp_kind
+      → Comes (HearsData {A = A} s n bytes) n before (told_by h) new boxed.items
+  heard_comes h new pushes box boxed hears sends same from kind =
       comes_with (HearsData s n bytes) n before (record { report = told_by h; state = new; out = sent_of s pushes })
-      (told_by h) new after
+      (told_by h) new boxed.items
       (inl (record { step = h; new = new; pushes = pushes; hears = hears; outcome = refl }))
-      (refl, refl, posts box boxed pushes before after (names_of s.net s.number) nbp_kind sends same from kind is)
+      (refl, refl, posts box boxed pushes before (names_of s.net s.number) nbp_kind sends same from kind)
       (told_some A h)
 
   -- the data was refused, or memory ran out

@@ -6,7 +6,7 @@ ghost use Rattle.at_node.specs.Hearing.{HearsIt, Hears};
 ghost use Rattle.at_packet.specs.Bodies.{IsBody, datagram_of};
 
 use crate::node::Node;
-use at_ddp::Datagrams;
+use at_ddp::Outbox;
 use at_event::{Report, Service};
 use at_packet::{Body, Packet};
 use at_transaction_socket::refused;
@@ -19,7 +19,7 @@ impl<A: Allocator + Copy> Node<A> {
         &mut self,
         service: &mut S,
         bytes: &[u8],
-        out: &mut Datagrams<A>,
+        out: &mut Outbox<A>,
     ) -> Report<A>
         ensures { (said : Reply A)
             × Comes (Hears said self.old bytes.now) self.old out.old.items result self.new out.new.items
@@ -33,7 +33,7 @@ impl<A: Allocator + Copy> Node<A> {
         &mut self,
         service: &mut S,
         packet: &Packet<'_>,
-        out: &mut Datagrams<A>,
+        out: &mut Outbox<A>,
     ) -> Report<A>
         ensures { (said : Reply A)
             × Comes (Hears said self.old packet.now) self.old out.old.items result self.new out.new.items
@@ -50,7 +50,7 @@ impl<A: Allocator + Copy> Node<A> {
         &mut self,
         service: &mut S,
         body: &Body<'_>,
-        out: &mut Datagrams<A>,
+        out: &mut Outbox<A>,
     ) -> Report<A>
         requires { IsBody body.now }
         ensures { (said : Reply A)

@@ -1,13 +1,13 @@
 //! The calls and the timer of the socket for names.
 ghost use Rattle.std.specs.Prelude.{◌≡◌, List, IfOk, IsSome, OnErr};
-ghost use Rattle.at_ddp.specs.Datagrams.{Posted};
+ghost use Rattle.at_ddp.specs.Outbox.{Posted};
 ghost use Rattle.at_name_socket.specs.NameSockets.{finds_told};
 ghost use Rattle.at_node.specs.NameCalls.{claim_called, find_called, finish_called, lookup_fired};
 ghost use Rattle.at_node.specs.NameCalls.{register_called, told_of, unregister_called};
 ghost use Rattle.at_event.specs.Outcomes.{IsStep};
 
 use crate::name_part::NamePart;
-use at_ddp::{Datagrams, Listed, NBP, Outbox, Pascal};
+use at_ddp::{Listed, NBP, Outbox, Pascal};
 use at_event::{NameReport, Report, Seat};
 use at_name_socket::{Finished, NAME_SOCKET};
 use at_nbp::{Find, Name, copy_of};
@@ -16,13 +16,11 @@ use std::alloc::{AllocError, Allocator};
 
 impl<A: Allocator + Copy> NamePart<A> {
     // Looks up the names that match a pattern.
-    pub(crate) fn find(&mut self, seat: Seat, pattern: Name, out: &mut Datagrams<A>) -> Report<A>
+    pub(crate) fn find(&mut self, seat: Seat, pattern: Name, out: &mut Outbox<A>) -> Report<A>
         ensures { IsStep (find_called seat self.old pattern) self.old out.old.items result self.new out.new.items }
     {
-        let mut outbox = Outbox::lent(self.alloc, out, seat.at(NAME_SOCKET), NBP);
-        let begun = self.socket.find(pattern, &mut outbox);
-        *out = outbox.into_list();
-        match begun {
+        out.send_from(seat.at(NAME_SOCKET), NBP);
+        match self.socket.find(pattern, out) {
             Ok(id) => Report::Names(NameReport::Looking(id)),
             Err(fault) => refused(fault.number()),
         }
@@ -35,17 +33,16 @@ impl<A: Allocator + Copy> NamePart<A> {
         object: &Pascal,
         kind: &Pascal,
         socket: u8,
-        out: &mut Datagrams<A>,
+        out: &mut Outbox<A>,
     ) -> Report<A>
         ensures { IsStep (claim_called seat self.old object.now kind.now socket) self.old out.old.items result self.new
             out.new.items }
     {
-        let mut outbox = Outbox::lent(self.alloc, out, seat.at(NAME_SOCKET), NBP);
-        let begun = self
+        out.send_from(seat.at(NAME_SOCKET), NBP);
+        match self
             .socket
-            .claim(copy_of(object), copy_of(kind), socket, &mut outbox);
-        *out = outbox.into_list();
-        match begun {
+            .claim(copy_of(object), copy_of(kind), socket, out)
+        {
             Ok(id) => Report::Names(NameReport::Looking(id)),
             Err(fault) => refused(fault.number()),
         }
@@ -70,13 +67,11 @@ impl<A: Allocator + Copy> NamePart<A> {
     }
 
     // Asks again for an open lookup.
-    pub(crate) fn ask_again(&mut self, seat: Seat, id: u8, out: &mut Datagrams<A>) -> Report<A>
+    pub(crate) fn ask_again(&mut self, seat: Seat, id: u8, out: &mut Outbox<A>) -> Report<A>
         ensures { IsStep (lookup_fired seat self.old id) self.old out.old.items result self.new out.new.items }
     {
-        let mut outbox = Outbox::lent(self.alloc, out, seat.at(NAME_SOCKET), NBP);
-        let asked = self.socket.retry(id, &mut outbox);
-        *out = outbox.into_list();
-        match asked {
+        out.send_from(seat.at(NAME_SOCKET), NBP);
+        match self.socket.retry(id, out) {
             Ok(()) => Report::Again,
             Err(fault) => refused(fault.number()),
         }

@@ -5,7 +5,7 @@ ghost use Rattle.at_node.specs.NameHearing.{HearsNames, told_by};
 ghost use Rattle.at_event.specs.Outcomes.{Comes};
 ghost use Rattle.at_event.specs.Services.{is_asked};
 
-use at_ddp::{Datagrams, Listed, NBP, Outbox, Pascal};
+use at_ddp::{Listed, NBP, Outbox, Pascal};
 use at_event::{NameReport, Report, Seat};
 use at_name_socket::{Heard, NAME_SOCKET, NameSocket, Neighbour};
 use at_packet::NbpPacket;
@@ -16,7 +16,6 @@ use std::marker::Model;
 // The part of a node that speaks NBP.
 #[derive(Drop)]
 pub(crate) struct NamePart<A: Allocator> {
-    pub(crate) alloc: A,
     pub(crate) socket: NameSocket<A>,
 }
 
@@ -38,7 +37,6 @@ impl<A: Allocator + Copy> NamePart<A> {
         ensures { result ≡ opening seat.net seat.number seat.router zone neighbours }
     {
         NamePart {
-            alloc,
             socket: NameSocket::new(alloc, seat.net, seat.number, seat.router, zone, neighbours),
         }
     }
@@ -48,7 +46,7 @@ impl<A: Allocator + Copy> NamePart<A> {
         &mut self,
         seat: Seat,
         packet: &NbpPacket<'_>,
-        out: &mut Datagrams<A>,
+        out: &mut Outbox<A>,
     ) -> Report<A>
         ensures comes { Comes (HearsNames seat self.old packet.now) self.old out.old.items result self.new
             out.new.items }
@@ -58,10 +56,8 @@ impl<A: Allocator + Copy> NamePart<A> {
         if datagram.to.socket != NAME_SOCKET {
             return Report::Ignored;
         }
-        let mut outbox = Outbox::lent(self.alloc, out, seat.at(NAME_SOCKET), NBP);
-        let heard = self.socket.hear(packet, &mut outbox);
-        *out = outbox.into_list();
-        match heard {
+        out.send_from(seat.at(NAME_SOCKET), NBP);
+        match self.socket.hear(packet, out) {
             Ok(heard) => told_by(heard),
             Err(fault) => refused(fault.number()),
         }

@@ -11,7 +11,7 @@ ghost use Rattle.at_packet.specs.Bodies.{IsBody, datagram_of};
 
 use crate::name_part::NamePart;
 use crate::settings::Settings;
-use at_ddp::Datagrams;
+use at_ddp::Outbox;
 use at_event::{Call, NameTimer, Report, Seat, Service, Timer};
 use at_packet::Body;
 use at_session::Session;
@@ -97,7 +97,7 @@ impl<A: Allocator + Copy> Node<A> {
     }
 
     /// Plays a call by the node's user. What the node sends goes to the end of the list.
-    pub fn call(&mut self, call: &Call<A>, out: &mut Datagrams<A>) -> Report<A>
+    pub fn call(&mut self, call: &Call<A>, out: &mut Outbox<A>) -> Report<A>
         ensures { IsStep (called self.old call.now) self.old out.old.items result self.new out.new.items }
     {
         match call {
@@ -110,7 +110,7 @@ impl<A: Allocator + Copy> Node<A> {
     }
 
     /// Plays a timer that fires. What the node sends goes to the end of the list.
-    pub fn timer(&mut self, timer: Timer, out: &mut Datagrams<A>) -> Report<A>
+    pub fn timer(&mut self, timer: Timer, out: &mut Outbox<A>) -> Report<A>
         ensures { IsStep (timed self.old timer) self.old out.old.items result self.new out.new.items }
     {
         match timer {
@@ -125,7 +125,7 @@ impl<A: Allocator + Copy> Node<A> {
         &mut self,
         service: &mut S,
         body: &Body<'_>,
-        out: &mut Datagrams<A>,
+        out: &mut Outbox<A>,
     ) -> Report<A>
         requires { IsBody body.now }
         ensures { (said : Reply A)

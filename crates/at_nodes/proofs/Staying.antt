@@ -1,7 +1,7 @@
 -- A node that takes an input stays where it stands.
 use Rattle.std.proofs.Common.{◌≡◌, Bool, true, false, List, ℕ, ap, ◌∙◌}
 use Rattle.std.specs.Prelude.{MatchBool}
-use Rattle.at_ddp.specs.Datagrams.{Posted}
+use Rattle.at_ddp.specs.Outbox.{Posted}
 use Rattle.at_event.specs.Outcomes.{Comes, Exactly, IsStep, Outcome, wants_memory}
 use Rattle.at_event.specs.Kinds.{takes_memory}
 use Rattle.at_event.specs.declared.Report.{Report}

@@ -1,6 +1,6 @@
 -- What a node does with an input, whatever carried it.
 use Rattle.std.specs.Prelude.{◌≡◌, ℕ, true, List}
-use Rattle.at_ddp.specs.Datagrams.{Posted}
+use Rattle.at_ddp.specs.Outbox.{Posted}
 use Rattle.at_event.specs.Outcomes.{Comes, IsStep}
 use Rattle.at_event.specs.Services.{is_asked}
 use Rattle.at_event.specs.declared.Report.{Report}

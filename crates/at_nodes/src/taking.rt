@@ -3,7 +3,7 @@ ghost use Rattle.std.specs.Prelude.{◌≡◌};
 ghost use Rattle.at_node.specs.Limits.{IsWithin};
 ghost use Rattle.at_nodes.specs.Taking.{Takes};
 
-use at_ddp::Datagrams;
+use at_ddp::Outbox;
 use at_event::{Deferring, Report};
 use at_node::laws::a_node_keeps_its_seat;
 use at_node::{Input, Node};
@@ -14,7 +14,7 @@ use std::alloc::Allocator;
 pub fn take<A: Allocator + Copy>(
     node: &mut Node<A>,
     input: &Input<'_, A>,
-    out: &mut Datagrams<A>,
+    out: &mut Outbox<A>,
 ) -> Report<A>
     ensures takes { Takes input.now node.old out.old.items result node.new out.new.items }
     ensures seat { node.new.seat ≡ node.old.seat }
@@ -29,7 +29,7 @@ pub fn take<A: Allocator + Copy>(
 fn give<A: Allocator + Copy>(
     node: &mut Node<A>,
     input: &Input<'_, A>,
-    out: &mut Datagrams<A>,
+    out: &mut Outbox<A>,
 ) -> Report<A>
     ensures { Takes input.now node.old out.old.items result node.new out.new.items }
 {

@@ -4,8 +4,8 @@ use Rattle.std.proofs.Common.{Result, Ok, Err, refl, sym, ap, subst, ◌∙◌}
 use Rattle.std.specs.Prelude.{◌==◌, ◌&&◌, min, not, take, drop}
 use Rattle.std.specs.Result.{ForOk}
 use Rattle.std.proofs.lemmas.List.{append-nil, drop_min, take_min}
-use Rattle.at_ddp.specs.Datagrams.{Posted}
-use Rattle.at_ddp.specs.Outbox.{Outbox, Sends}
+use Rattle.at_ddp.specs.Outbox.{Posted, Outbox}
+use Rattle.at_ddp.specs.Sending.{Sends}
 use Rattle.at_ddp.specs.declared.address.Address.{Address}
 use Rattle.at_ddp.specs.Protocols.{adsp_kind}
 use Rattle.at_adsp_end.specs.Calls.{is_idle, is_last, probed, ticked}
@@ -34,22 +34,21 @@ use Rattle.at_stream_socket.specs.Sockets.{streams_at, told_by, told_read}
 
 -- ---- what is sent
 
--- an outbox of the socket for streams over a list, and the list that it gave back
-pub record IsBox (s : Seat) (box boxed : Outbox) (before after : List Posted) : Type 0 where
+-- the outbox of the socket for streams, behind these datagrams
+pub record IsBox (s : Seat) (box : Outbox) (before : List Posted) : Type 0 where
   pub items : box.items ≡ before
   pub from : box.from ≡ streams_at s.net s.number
   pub kind : box.kind ≡ adsp_kind
-  pub back : after ≡ boxed.items
 
-pub posts : (s : Seat) (box boxed : Outbox) (before after : List Posted) (pushes : List (Address × List ℕ))
-    → IsBox s box boxed before after → Sends box boxed pushes → after
-    ≡ before ++ map posted (sent_by (streams_at s.net s.number) adsp_kind pushes)
-posts s box boxed before after pushes b sends =
-    posts_from box boxed pushes before after (streams_at s.net s.number) adsp_kind sends b.items b.from b.kind b.back
+pub posts : (s : Seat) (box boxed : Outbox) (before : List Posted) (pushes : List (Address × List ℕ))
+    → IsBox s box before → Sends box boxed pushes
+    → boxed.items ≡ before ++ map posted (sent_by (streams_at s.net s.number) adsp_kind pushes)
+posts s box boxed before pushes b sends =
+    posts_from box boxed pushes before (streams_at s.net s.number) adsp_kind sends b.items b.from b.kind
 
-pub nothing_posted : (s : Seat) (box boxed : Outbox) (before after : List Posted) → IsBox s box boxed before after
-    → Sends box boxed [] → after ≡ before
-nothing_posted s box boxed before after b sends = b.back ∙ sends.items ∙ append-nil box.items ∙ b.items
+pub nothing_posted : (s : Seat) (box boxed : Outbox) (before : List Posted) → IsBox s box before → Sends box boxed []
+    → boxed.items ≡ before
+nothing_posted s box boxed before b sends = sends.items ∙ append-nil box.items ∙ b.items
 
 -- ---- reports
 
@@ -94,19 +93,19 @@ refused_step A t start None = (refl, refl, refl)
 refused_step A t start (Some n) = (refl, refl, sym (append-nil start))
 
 pub call_step : {A X : Type 0} (s : Seat) (old new : EndTable) (told : X → Report A) (r : Result (Done X) StreamFault)
-    (tried : Result X StreamFault) (box boxed : Outbox) (before after : List Posted) →
+    (tried : Result X StreamFault) (box boxed : Outbox) (before : List Posted) →
     ((x : X) → wants_memory (told x) ≡ false) → ForOk r (λ d. takes_memory (told d.answer) ≡ true)
-    → IsBox s box boxed before after → IsCalled r tried old new box boxed
-    → IsStep (called s old told r) old before (reported told tried) new after
-call_step s old new told (Ok d) (Ok x) box boxed before after some takes b h =
-    rw (some x) (ap told h.answer_is, h.state, posts s box boxed before after (spelled_all d.sent) b h.sent)
-call_step s old new told (Ok d) (Err fault) box boxed before after some takes b h =
+    → IsBox s box before → IsCalled r tried old new box boxed
+    → IsStep (called s old told r) old before (reported told tried) new boxed.items
+call_step s old new told (Ok d) (Ok x) box boxed before some takes b h =
+    rw (some x) (ap told h.answer_is, h.state, posts s box boxed before (spelled_all d.sent) b h.sent)
+call_step s old new told (Ok d) (Err fault) box boxed before some takes b h =
     let nothing = h.1 in
-    subst (λ f. IsStep (called s old told (Ok d)) old before (refused_as (number_of f)) new after) (sym h.0)
-    (nothing.state, nothing_posted s box boxed before after b nothing.sent, takes d refl)
-call_step {A} s old new told (Err refusal) tried box boxed before after some takes b h =
+    subst (λ f. IsStep (called s old told (Ok d)) old before (refused_as (number_of f)) new boxed.items) (sym h.0)
+    (nothing.state, nothing_posted s box boxed before b nothing.sent, takes d refl)
+call_step {A} s old new told (Err refusal) tried box boxed before some takes b h =
     let nothing = h.1 in
-    rw (h.0, nothing.state, nothing_posted s box boxed before after b nothing.sent)
+    rw (h.0, nothing.state, nothing_posted s box boxed before b nothing.sent)
     (refused_step A old before (number_of refusal))
 
 -- ---- closing and ticking

@@ -5,8 +5,8 @@ use Rattle.std.specs.Prelude.{IsOk, ◌==◌}
 use Rattle.std.proofs.lemmas.Bool.{false≢true}
 use Rattle.std.proofs.lemmas.List.{append-nil}
 use Rattle.at_ddp.specs.Datagram.{Content as Datagram}
-use Rattle.at_ddp.specs.Datagrams.{Posted}
-use Rattle.at_ddp.specs.Outbox.{HasRoomToSend, Outbox}
+use Rattle.at_ddp.specs.Outbox.{Posted, Outbox}
+use Rattle.at_ddp.specs.Sending.{HasRoomToSend}
 use Rattle.at_ddp.specs.declared.address.Address.{Address}
 use Rattle.at_adsp_frame.specs.Fault.{IsFirstFault, number_of}
 use Rattle.at_adsp_frame.specs.Segments.{Content, Spells}
@@ -73,13 +73,12 @@ module _ (A : Type 0) (s : Seat) (old : EndTable) (d : Datagram) (before : List 
         )
 
     pub taken_comes : {E : Type 0} (new : EndTable) (segment : Content) (tried : Result EndChange E)
-        (box boxed : Outbox)
-        (after : List Posted) →
-        Spells d.data_ segment → IsBox s box boxed before after
+        (box boxed : Outbox) →
+        Spells d.data_ segment → IsBox s box before
         → IsTaken (received wire old d.from segment) tried old new box boxed
         → ((received wire old d.from segment).answer ≡ step.Ignored → IsOk tried) →
-        Comes (HearsStreams {A = A} s old d) old before (reported tried) new after
-    taken_comes new segment (Ok done) box boxed after spelled b h heeds =
+        Comes (HearsStreams {A = A} s old d) old before (reported tried) new boxed.items
+    taken_comes new segment (Ok done) box boxed spelled b h heeds =
         rw (told_some A done) (
           segment_heard s old d.from segment,
           rw its
@@ -87,13 +86,13 @@ module _ (A : Type 0) (s : Seat) (old : EndTable) (d : Datagram) (before : List 
           (
             ap told_by h.answer_is,
             h.state,
-            posts s box boxed before after
+            posts s box boxed before
                 (spelled_all (received wire old d.from segment).sent) b h.sent,
           ),
         )
-    taken_comes new segment (Err e) box boxed after spelled b h heeds = (
+    taken_comes new segment (Err e) box boxed spelled b h heeds = (
       h.state,
-      nothing_posted s box boxed before after b h.sent,
+      nothing_posted s box boxed before b h.sent,
       (
         segment_heard s old d.from segment,
         rw its

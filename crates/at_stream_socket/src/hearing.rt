@@ -9,14 +9,14 @@ ghost use Rattle.at_stream_socket.specs.Hearing.{HearsStreams, Makes};
 use crate::socket::{STREAM_SOCKET, StreamSocket, told_by};
 use at_adsp_ends::laws::what_is_ignored_does_nothing;
 use at_adsp_frame::AdspFault;
-use at_ddp::{ADSP, Datagrams, Outbox};
+use at_ddp::{ADSP, Outbox};
 use at_event::{Report, Seat};
 use at_packet::AdspPacket;
 use std::alloc::{AllocError, Allocator};
 
 impl<A: Allocator + Copy> StreamSocket<A> {
     /// Takes a datagram of ADSP that is for this node.
-    pub fn hear(&mut self, seat: Seat, packet: &AdspPacket<'_>, out: &mut Datagrams<A>) -> Report<A>
+    pub fn hear(&mut self, seat: Seat, packet: &AdspPacket<'_>, out: &mut Outbox<A>) -> Report<A>
         ensures comes { Comes (HearsStreams seat self.old packet.now) self.old out.old.items result self.new
             out.new.items }
         ensures not_asked { is_asked result ≡ false }
@@ -31,10 +31,8 @@ impl<A: Allocator + Copy> StreamSocket<A> {
         };
         // So what is ignored needs no memory.
         what_is_ignored_does_nothing();
-        let mut outbox = Outbox::lent(self.alloc, out, seat.at(STREAM_SOCKET), ADSP);
-        let heard = self.ends.receive(datagram.from, &segment, &mut outbox);
-        *out = outbox.into_list();
-        match heard {
+        out.send_from(seat.at(STREAM_SOCKET), ADSP);
+        match self.ends.receive(datagram.from, &segment, out) {
             Ok(step) => told_by(step),
             Err(AllocError) => Report::NoMemory,
         }

@@ -7,13 +7,13 @@ ghost use Rattle.at_stream_socket.specs.Calls.{read_called};
 
 use crate::socket::{STREAM_SOCKET, StreamSocket, refused_by};
 use at_adsp_ends::Item;
-use at_ddp::{ADSP, Datagrams, Listed, Outbox};
+use at_ddp::{ADSP, Listed, Outbox};
 use at_event::{Report, Seat, StreamReport};
 use std::alloc::Allocator;
 
 impl<A: Allocator + Copy> StreamSocket<A> {
     /// Reads items of an end that is open or was, at most so many.
-    pub fn read(&mut self, seat: Seat, id: u16, count: u16, out: &mut Datagrams<A>) -> Report<A>
+    pub fn read(&mut self, seat: Seat, id: u16, count: u16, out: &mut Outbox<A>) -> Report<A>
         ensures { IsStep (read_called seat self.old id count) self.old out.old.items result self.new out.new.items }
     {
         match self.ends.unread(id) {
@@ -23,7 +23,7 @@ impl<A: Allocator + Copy> StreamSocket<A> {
     }
 
     // Reads so many items. No more can be read than there are.
-    fn read_some(&mut self, seat: Seat, id: u16, count: usize, out: &mut Datagrams<A>) -> Report<A>
+    fn read_some(&mut self, seat: Seat, id: u16, count: usize, out: &mut Outbox<A>) -> Report<A>
         requires { (unread : ℕ) × (unread_at (by_id self.old id) ≡ Ok unread) }
         ensures { IsStep (read_called seat self.old id count) self.old out.old.items result self.new out.new.items }
     {
@@ -31,10 +31,8 @@ impl<A: Allocator + Copy> StreamSocket<A> {
         let Ok(()) = items.resize(count, Item::End) else {
             return Report::NoMemory;
         };
-        let mut outbox = Outbox::lent(self.alloc, out, seat.at(STREAM_SOCKET), ADSP);
-        let read = self.ends.read(id, &mut items, &mut outbox);
-        *out = outbox.into_list();
-        match read {
+        out.send_from(seat.at(STREAM_SOCKET), ADSP);
+        match self.ends.read(id, &mut items, out) {
             Ok(count) => {
                 items.truncate(count);
                 Report::Streams(StreamReport::Read(Listed::from_vec(items)))

@@ -1,6 +1,6 @@
 -- What comes of a packet for the socket that asks.
 use Rattle.std.proofs.Common.{◌≡◌, ℕ, true, false, List, ◌++◌, map, refl, ap}
-use Rattle.at_ddp.specs.Datagrams.{Posted}
+use Rattle.at_ddp.specs.Outbox.{Posted}
 use Rattle.at_ddp.specs.Protocols.{atp_kind}
 use Rattle.at_atp_frame.specs.Frames.{spelled_all}
 use Rattle.at_atp_requester.specs.Requests.{Heard, is_ignored}

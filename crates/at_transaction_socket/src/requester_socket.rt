@@ -13,7 +13,7 @@ use crate::incoming::Incoming;
 use crate::refusals::refused;
 use crate::transaction_socket::{REQUESTER_SOCKET, TransactionSocket};
 use at_atp::{Frame, RequestProgress, Requester};
-use at_ddp::{ATP, Address, Datagrams, Outbox};
+use at_ddp::{ATP, Address, Outbox};
 use at_event::{Report, Seat, TransactionReport};
 use std::alloc::{AllocError, Allocator};
 
@@ -35,7 +35,7 @@ pub struct Question<'a> {
 
 impl<A: Allocator + Copy> TransactionSocket<A> {
     /// Begins a transaction for the node's user, and sends its request.
-    pub fn ask(&mut self, seat: Seat, question: &Question<'_>, out: &mut Datagrams<A>) -> Report<A>
+    pub fn ask(&mut self, seat: Seat, question: &Question<'_>, out: &mut Outbox<A>) -> Report<A>
         requires some { 1 ≤ question.now.wanted }
         requires few { question.now.wanted ≤ 8 }
         ensures { IsStep (ask_called seat self.old question.now.to question.now.user question.now.bytes.now
@@ -49,14 +49,14 @@ impl<A: Allocator + Copy> TransactionSocket<A> {
     }
 
     /// Takes a packet that ends no transaction of another user.
-    pub fn hear_other(&mut self, packet: &Incoming<'_>, out: &mut Datagrams<A>) -> Report<A>
+    pub fn hear_other(&mut self, packet: &Incoming<'_>, out: &mut Outbox<A>) -> Report<A>
         ensures step { IsStep (hears_other packet.now.seat self.old (tid_of (content packet.now.frame))
             (heard self.old.requester packet.now.from (content packet.now.frame)))
             self.old out.old.items result self.new out.new.items }
         ensures not_asked { is_asked result ≡ false }
     {
         let own = packet.seat.at(REQUESTER_SOCKET);
-        let Ok(step) = hear(self.alloc, &mut self.requester, own, packet, out) else {
+        let Ok(step) = hear(&mut self.requester, own, packet, out) else {
             return Report::NoMemory;
         };
         reported_other(tid_of(&packet.frame), step)
@@ -65,11 +65,10 @@ impl<A: Allocator + Copy> TransactionSocket<A> {
 
 // The requester takes a packet.
 fn hear<A: Allocator + Copy>(
-    alloc: A,
     requester: &mut Requester<A>,
     own: Address,
     packet: &Incoming<'_>,
-    out: &mut Datagrams<A>,
+    out: &mut Outbox<A>,
 ) -> Result<RequestProgress<A>, AllocError>
     ensures step { IfOk result
         (λ step. step ≡ (heard requester.old packet.now.from (content packet.now.frame)).step) }
@@ -84,10 +83,8 @@ fn hear<A: Allocator + Copy>(
     ensures ignored { is_ignored (heard {A = A} requester.old packet.now.from (content packet.now.frame)).step ≡ true
         → IsOk result }
 {
-    let mut outbox = Outbox::lent(alloc, out, own, ATP);
-    let step = requester.receive(packet.from, &packet.frame, &mut outbox);
-    *out = outbox.into_list();
-    step
+    out.send_from(own, ATP);
+    requester.receive(packet.from, &packet.frame, out)
 }
 
 // The report of a step of a transaction.

@@ -11,17 +11,16 @@ ghost use Rattle.at_event.specs.Services.{is_asked};
 
 use crate::incoming::Incoming;
 use at_atp::{AtpFault, Key, Packet, Reception, Responder};
-use at_ddp::{ATP, Address, Datagrams, Outbox};
+use at_ddp::{ATP, Address, Outbox};
 use at_event::{Report, TransactionReport};
 use std::alloc::Allocator;
 
 /// The responder takes a packet.
 pub fn hear<A: Allocator + Copy>(
-    alloc: A,
     records: &mut Responder<A>,
     own: Address,
     packet: &Incoming<'_>,
-    out: &mut Datagrams<A>,
+    out: &mut Outbox<A>,
 ) -> Result<Reception, AtpFault>
     ensures reception { IfOk result
         (λ r. r ≡ (received records.old packet.now.from (content packet.now.frame)).reception) }
@@ -39,20 +38,17 @@ pub fn hear<A: Allocator + Copy>(
     ensures nothing_sent { OnErr result (out.new.items ≡ out.old.items) }
     ensures release { is_release (content packet.now.frame) ≡ true → IsOk result }
 {
-    let mut outbox = Outbox::lent(alloc, out, own, ATP);
-    let reception = records.receive(packet.from, &packet.frame, &mut outbox);
-    *out = outbox.into_list();
-    reception
+    out.send_from(own, ATP);
+    records.receive(packet.from, &packet.frame, out)
 }
 
 /// Answers a request, and sends the packets that it asks for.
 pub fn answer<A: Allocator + Copy>(
-    alloc: A,
     records: &mut Responder<A>,
     own: Address,
     key: Key,
     packets: &[Packet<A>],
-    out: &mut Datagrams<A>,
+    out: &mut Outbox<A>,
 ) -> Result<u8, AtpFault>
     ensures state { OnOk result (records.new ≡ after_answer records.old key packets.now) }
     ensures count { IfOk result (λ count. count ≡ length (asked_for (find (is_key key) records.old) key packets.now)) }
@@ -65,19 +61,16 @@ pub fn answer<A: Allocator + Copy>(
     ensures unchanged { OnErr result (records.new ≡ records.old) }
     ensures nothing_sent { OnErr result (out.new.items ≡ out.old.items) }
 {
-    let mut outbox = Outbox::lent(alloc, out, own, ATP);
-    let answered = records.respond(key, packets, &mut outbox);
-    *out = outbox.into_list();
-    answered
+    out.send_from(own, ATP);
+    records.respond(key, packets, out)
 }
 
 /// Takes a release, which never runs out of memory.
 pub fn release<A: Allocator + Copy>(
-    alloc: A,
     records: &mut Responder<A>,
     own: Address,
     packet: &Incoming<'_>,
-    out: &mut Datagrams<A>,
+    out: &mut Outbox<A>,
 ) -> Report<A>
     requires { is_release (content packet.now.frame) ≡ true }
     ensures report { result
@@ -87,7 +80,7 @@ pub fn release<A: Allocator + Copy>(
         (sent_by own atp_kind (spelled_all (received records.old packet.now.from (content packet.now.frame)).sent)) }
     ensures not_asked { is_asked result ≡ false }
 {
-    match hear(alloc, records, own, packet, out).unwrap() {
+    match hear(records, own, packet, out).unwrap() {
         Reception::Released => Report::Transactions(TransactionReport::Released),
         _ => Report::Ignored,
     }

@@ -1,6 +1,6 @@
 //! The socket of the node's service: a new request is delivered to it, and answered at once or by a later call.
 ghost use Rattle.std.specs.Prelude.{◌≡◌, ◌++◌, [], map, find, None, Err, IfOk, IfSome, IsOk, OnOk, OnErr};
-ghost use Rattle.at_ddp.specs.Outbox.{Sends};
+ghost use Rattle.at_ddp.specs.Sending.{Sends};
 ghost use Rattle.at_ddp.specs.Protocols.{atp_kind};
 ghost use Rattle.at_ddp.specs.Tables.{without_first};
 ghost use Rattle.at_atp_frame.specs.Frames.{content, spelled_all};
@@ -18,7 +18,7 @@ use crate::refusals::refused;
 use crate::responders::{answer, hear, release};
 use crate::transaction_socket::TransactionSocket;
 use at_atp::{AtpFault, Frame, Key, Packet, Reception, Responder};
-use at_ddp::{ATP, Address, Bytes, Datagrams, Outbox};
+use at_ddp::{ATP, Address, Bytes, Outbox};
 use at_event::{Reply, Report, Seat, Service, TransactionReport};
 use std::alloc::{AllocError, Allocator};
 
@@ -32,20 +32,13 @@ impl<A: Allocator + Copy> TransactionSocket<A> {
         seat: Seat,
         key: Key,
         packets: &[Packet<A>],
-        out: &mut Datagrams<A>,
+        out: &mut Outbox<A>,
     ) -> Report<A>
         ensures { IsStep (answer_called seat self.old key packets.now) self.old out.old.items result self.new
             out.new.items }
     {
         let sender = seat.at(SERVICE_SOCKET);
-        match answer(
-            self.alloc,
-            &mut self.service_responder,
-            sender,
-            key,
-            packets,
-            out,
-        ) {
+        match answer(&mut self.service_responder, sender, key, packets, out) {
             Ok(count) => Report::Transactions(TransactionReport::Answered(count)),
             Err(fault) => refused(fault.number()),
         }
@@ -56,7 +49,7 @@ impl<A: Allocator + Copy> TransactionSocket<A> {
         &mut self,
         service: &mut S,
         packet: &Incoming<'_>,
-        out: &mut Datagrams<A>,
+        out: &mut Outbox<A>,
     ) -> Report<A>
         ensures { (said : Said A)
             × IsStep (service_heard said packet.now.seat self.old packet.now.from (content packet.now.frame))
@@ -65,7 +58,7 @@ impl<A: Allocator + Copy> TransactionSocket<A> {
     {
         let own = packet.seat.at(SERVICE_SOCKET);
         if let Frame::Release { .. } = packet.frame {
-            return release(self.alloc, &mut self.service_responder, own, packet, out);
+            return release(&mut self.service_responder, own, packet, out);
         }
         let Frame::Request { user, data_, .. } = packet.frame else {
             return Report::Ignored;
@@ -105,7 +98,7 @@ fn give_request<A: Allocator + Copy, S: Service<A>>(
     packet: &Incoming<'_>,
     user: [u8; 4],
     bytes: &[u8],
-    out: &mut Datagrams<A>,
+    out: &mut Outbox<A>,
 ) -> Report<A>
     ensures { (said : Said A)
         × ((s : SeatOf) (a : TransactionState) → a.service_responder ≡ records.old → serving s.net s.number ≡ own →
@@ -113,7 +106,7 @@ fn give_request<A: Allocator + Copy, S: Service<A>>(
         (record a { service_responder = records.new }) out.new.items)
         × Serves S.serves result said service.old service.new }
 {
-    match hear(alloc, records, own, packet, out) {
+    match hear(records, own, packet, out) {
         Err(fault) => refused(fault.number()),
         Ok(Reception::Ignored) => Report::Ignored,
         Ok(Reception::Again(_)) => Report::Again,
@@ -140,7 +133,7 @@ fn hand_up<A: Allocator + Copy, S: Service<A>>(
     key: Key,
     user: [u8; 4],
     bytes: &[u8],
-    out: &mut Datagrams<A>,
+    out: &mut Outbox<A>,
 ) -> Result<Bytes<A>, AllocError>
     requires waits { record_fault (find (is_key key) records.old) ≡ None }
     ensures copy { IfOk result (λ copy. copy ≡ bytes.now) }
@@ -154,10 +147,8 @@ fn hand_up<A: Allocator + Copy, S: Service<A>>(
 {
     // The copy comes first: a delivery to the service cannot be taken back.
     let copy = Bytes::copy_of(alloc, bytes)?;
-    let mut outbox = Outbox::lent(alloc, out, own, ATP);
-    let replied = reply(records, service, key, user, bytes, &mut outbox);
-    *out = outbox.into_list();
-    match replied {
+    out.send_from(own, ATP);
+    match reply(records, service, key, user, bytes, out) {
         Ok(()) => Ok(copy),
         Err(AllocError) => Err(AllocError),
     }

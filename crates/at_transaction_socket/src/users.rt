@@ -13,7 +13,7 @@ use crate::incoming::Incoming;
 use crate::requester_socket::Question;
 use crate::transaction_socket::{REQUESTER_SOCKET, TransactionSocket};
 use at_atp::{AtpFault, Retry};
-use at_ddp::{ATP, Datagrams, Outbox};
+use at_ddp::{ATP, Outbox};
 use at_event::Seat;
 use std::alloc::{AllocError, Allocator};
 
@@ -23,7 +23,7 @@ impl<A: Allocator + Copy> TransactionSocket<A> {
         &mut self,
         seat: Seat,
         question: &Question<'_>,
-        out: &mut Datagrams<A>,
+        out: &mut Outbox<A>,
     ) -> Result<u16, AtpFault>
         requires some { 1 ≤ question.now.wanted }
         requires few { question.now.wanted ≤ 8 }
@@ -58,18 +58,9 @@ impl<A: Allocator + Copy> TransactionSocket<A> {
             exactly_once,
             retries,
         } = *question;
-        let mut outbox = Outbox::lent(self.alloc, out, seat.at(REQUESTER_SOCKET), ATP);
-        let begun = self.requester.begin(
-            to,
-            user,
-            bytes,
-            wanted,
-            exactly_once,
-            retries,
-            &mut outbox,
-        );
-        *out = outbox.into_list();
-        begun
+        out.send_from(seat.at(REQUESTER_SOCKET), ATP);
+        self.requester
+            .begin(to, user, bytes, wanted, exactly_once, retries, out)
     }
 
     /// Whether a packet would end its transaction, which is at-least-once.
@@ -101,7 +92,7 @@ impl<A: Allocator + Copy> TransactionSocket<A> {
         packet: &Incoming<'_>,
         user: [u8; 4],
         retries: u8,
-        out: &mut Datagrams<A>,
+        out: &mut Outbox<A>,
     ) -> Result<u16, AllocError>
         requires { finishes A self.old.requester packet.now.from (content packet.now.frame) ≡ true }
         ensures drawn { IfOk result (λ tid. next_number
@@ -117,18 +108,14 @@ impl<A: Allocator + Copy> TransactionSocket<A> {
         ensures unchanged { OnErr result (self.new ≡ self.old) }
         ensures nothing_sent { OnErr result (out.new.items ≡ out.old.items) }
     {
-        let own = packet.seat.at(REQUESTER_SOCKET);
-        let mut outbox = Outbox::lent(self.alloc, out, own, ATP);
-        let turned = self
-            .requester
-            .turn(packet.from, &packet.frame, user, retries, &mut outbox);
-        *out = outbox.into_list();
-        turned
+        out.send_from(packet.seat.at(REQUESTER_SOCKET), ATP);
+        self.requester
+            .turn(packet.from, &packet.frame, user, retries, out)
     }
 
     /// Sends the request of this number again. If no retry is left, its transaction is closed, and its user is to learn
     /// that it failed.
-    pub fn retry(&mut self, seat: Seat, tid: u16, out: &mut Datagrams<A>) -> Result<Retry, AtpFault>
+    pub fn retry(&mut self, seat: Seat, tid: u16, out: &mut Outbox<A>) -> Result<Retry, AtpFault>
         ensures ok { IfOk result (λ step. (effect : Retried) × (retried self.old.requester tid ≡ Some effect)
             × (step ≡ effect.step) × (self.new ≡ record self.old { requester = effect.after })
             × (out.new.items ≡ out.old.items ++ map posted
@@ -140,9 +127,7 @@ impl<A: Allocator + Copy> TransactionSocket<A> {
         ensures unchanged { OnErr result (self.new ≡ self.old) }
         ensures nothing_sent { OnErr result (out.new.items ≡ out.old.items) }
     {
-        let mut outbox = Outbox::lent(self.alloc, out, seat.at(REQUESTER_SOCKET), ATP);
-        let step = self.requester.retry(tid, &mut outbox);
-        *out = outbox.into_list();
-        step
+        out.send_from(seat.at(REQUESTER_SOCKET), ATP);
+        self.requester.retry(tid, out)
     }
 }

@@ -1,7 +1,7 @@
 -- Every play is a run of the machine.
 use Rattle.std.proofs.Common.{◌≡◌, ◌⊎◌, inl, inr, ⊎_elim, Bool, true, false, cond, List, [], ◌∷◌, map, take, Some, None}
 use Rattle.std.proofs.Common.{Result, Ok, Err, refl, sym, ap, subst, ◌∙◌}
-use Rattle.at_ddp.specs.Datagrams.{Posted}
+use Rattle.at_ddp.specs.Outbox.{Posted}
 use Rattle.std.proofs.lemmas.Bool.{true≢false}
 use Rattle.at_event.specs.Kinds.{reporter_of}
 use Rattle.at_event.specs.declared.Report.{Report}

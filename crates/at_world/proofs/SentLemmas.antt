@@ -4,7 +4,7 @@ use Rattle.std.proofs.Common.{arith}
 use Rattle.std.proofs.lemmas.Bool.{eqb-true}
 use Rattle.std.proofs.lemmas.List.{append-nil, length-append}
 use Rattle.std.specs.Prelude.{◌==◌, slice_get, true}
-use Rattle.at_ddp.specs.Datagrams.{Posted}
+use Rattle.at_ddp.specs.Outbox.{Posted}
 use Rattle.at_world.specs.Sents.{SentDatagram, stamp, stamped}
 
 pub length-stamped : (es : List ℕ) (ps : List Posted) → length es ≡ length ps → length (stamped es ps) ≡ length es

@@ -6,7 +6,7 @@ ghost use Rattle.at_world.specs.Sents.{stamp};
 
 use crate::draws::LastDraws;
 use crate::sent::SentList;
-use at_ddp::Datagrams;
+use at_ddp::Outbox;
 use at_event::{NameReport, Report, StreamReport, TransactionReport};
 use at_node::Draw;
 use std::alloc::{AllocError, Allocator};
@@ -47,7 +47,7 @@ impl<A: Allocator + Copy> Log<A> {
         &mut self,
         node: u8,
         drawn: Option<Draw>,
-        out: &mut Datagrams<A>,
+        out: &mut Outbox<A>,
     ) -> Result<(), AllocError>
         requires { self.old.events < MAX_EVENTS }
         ensures recorded { OnOk result (self.new ≡ record {
@@ -65,12 +65,7 @@ impl<A: Allocator + Copy> Log<A> {
         recorded
     }
 
-    fn add(
-        &mut self,
-        node: u8,
-        drawn: Option<Draw>,
-        out: &mut Datagrams<A>,
-    ) -> Result<(), AllocError>
+    fn add(&mut self, node: u8, drawn: Option<Draw>, out: &mut Outbox<A>) -> Result<(), AllocError>
         requires { self.old.events < MAX_EVENTS }
         ensures added { OnOk result (self.new ≡ record {
           sent = self.old.sent ++ map (stamp self.old.events) out.old.items;

@@ -3,7 +3,7 @@ ghost use Rattle.std.specs.Prelude.{◌≡◌, ◌<◌, ◌≤◌, ◌+◌, ◌+
 ghost use Rattle.std.specs.Prelude.{vec_capacity, vec_len};
 ghost use Rattle.at_world.specs.Sents.{SentDatagram, stamp};
 
-use at_ddp::Datagrams;
+use at_ddp::Outbox;
 use std::alloc::{AllocError, Allocator, Global};
 use std::marker::Model;
 
@@ -20,7 +20,7 @@ pub struct Sent<'a> {
 /// All datagrams that were sent, numbered from 0.
 #[derive(Drop)]
 pub struct SentList<A: Allocator = Global> {
-    list: Datagrams<A>,
+    list: Outbox<A>,
     // The event that sent each datagram.
     events: Vec<u32, A>,
 }
@@ -41,7 +41,7 @@ impl<A: Allocator + Copy> SentList<A> {
         ensures { result ≡ [] }
     {
         SentList {
-            list: Datagrams::new(alloc),
+            list: Outbox::new(alloc),
             events: Vec::new(alloc),
         }
     }
@@ -67,7 +67,7 @@ impl<A: Allocator> SentList<A> {
     }
 
     // Moves what an event sent to the end. If memory runs out, nothing is added.
-    pub(crate) fn append(&mut self, out: &mut Datagrams<A>, event: u32) -> Result<(), AllocError>
+    pub(crate) fn append(&mut self, out: &mut Outbox<A>, event: u32) -> Result<(), AllocError>
         ensures ok { OnOk result
             ((self.new ≡ self.old ++ map (stamp event) out.old.items) × (out.new.items ≡ [])) }
         ensures err { OnErr result (self.new ≡ self.old) }

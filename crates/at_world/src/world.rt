@@ -15,7 +15,7 @@ ghost use Rattle.at_world.specs.Worlds.{is_over};
 use crate::log::{Log, MAX_EVENTS, drawn_by};
 use crate::sent::SentList;
 use crate::timely::is_fresh;
-use at_ddp::Datagrams;
+use at_ddp::Outbox;
 use at_event::Report;
 use at_node::{Input, Node};
 use at_nodes::{is_held, opening_nodes, place_of, take};
@@ -33,7 +33,7 @@ const MAX_DATAGRAMS: usize = 868_928;
 pub struct World<A: Allocator> {
     nodes: Vec<Node<A>, A>,
     // An empty list, whose room is used again by each event.
-    out: Datagrams<A>,
+    out: Outbox<A>,
     pub(crate) log: Log<A>,
 }
 
@@ -64,7 +64,7 @@ impl<A: Allocator + Copy> World<A> {
         let nodes = opening_nodes(alloc, setup)?;
         Ok(World {
             nodes,
-            out: Datagrams::new(alloc),
+            out: Outbox::new(alloc),
             log: Log::new(alloc),
         })
     }

@@ -3,7 +3,7 @@ use Rattle.std.proofs.Common.{◌≡◌, ℕ, false, List, Option, Some, None, r
 use Rattle.std.specs.Prelude.{◌==◌}
 use Rattle.std.proofs.lemmas.Bool.{false≢true}
 use Rattle.at_ddp.specs.Datagram.{Content as Datagram}
-use Rattle.at_ddp.specs.Datagrams.{Posted}
+use Rattle.at_ddp.specs.Outbox.{Posted}
 use Rattle.at_zip.specs.declared.request.TableChoice.{TableChoice}
 use Rattle.at_event.specs.Outcomes.{Comes}
 use Rattle.at_event.specs.declared.Report.{Report}

@@ -1,7 +1,7 @@
 -- What comes of a packet for the socket that asks: of the page that a reading asked for, and of any other.
 use Rattle.std.proofs.Common.{◌≡◌, ℕ, Bool, true, false, List, Some, refl, inl, inr, Bor}
 use Rattle.std.proofs.Math.Bool.{and-false}
-use Rattle.at_ddp.specs.Datagrams.{Posted}
+use Rattle.at_ddp.specs.Outbox.{Posted}
 use Rattle.at_ddp.specs.declared.address.Address.{Address}
 use Rattle.at_atp_frame.specs.Frames as Frames
 use Rattle.at_atp_frame.specs.Frames.{Content}

@@ -5,7 +5,7 @@ use Rattle.std.specs.Prelude.{is_some, option_map}
 use Rattle.std.proofs.lemmas.Bool.{false≢true, true≢false}
 use Rattle.std.proofs.lemmas.List.{append-nil}
 use Rattle.at_ddp.specs.Datagram.{Content as Datagram}
-use Rattle.at_ddp.specs.Datagrams.{Posted}
+use Rattle.at_ddp.specs.Outbox.{Posted}
 use Rattle.at_ddp.specs.declared.address.Address.{Address}
 use Rattle.at_ddp.specs.Protocols.{atp_kind}
 use Rattle.at_atp_frame.specs.Frames as Frames

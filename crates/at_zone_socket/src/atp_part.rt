@@ -1,7 +1,7 @@
 //! The part of a node that speaks ATP: its calls and its timers, each at the sockets that have it.
 ghost use Rattle.std.specs.Prelude.{◌≡◌, ◌≤◌, List};
 ghost use Rattle.at_atp_requester.specs.Requests.{retried};
-ghost use Rattle.at_ddp.specs.Datagrams.{Posted};
+ghost use Rattle.at_ddp.specs.Outbox.{Posted};
 ghost use Rattle.at_event.specs.Outcomes.{IsStep, over};
 ghost use Rattle.at_transaction_socket.specs.RequesterSocket.{ask_called};
 ghost use Rattle.at_transaction_socket.specs.ServiceSocket.{answer_called};
@@ -12,7 +12,7 @@ ghost use Rattle.at_zone_socket.specs.ZoneSocket.{set_zones_called};
 
 use crate::zone_socket::{ZONE_SOCKET, ZoneSocket};
 use at_atp::{AtpFault, Key, Packet, Retry};
-use at_ddp::{Datagrams, Listed, Pascal};
+use at_ddp::{Listed, Outbox, Pascal};
 use at_event::{Report, Seat, TransactionReport};
 use at_transaction_socket::{Question, SERVICE_SOCKET, TransactionSocket, refused};
 use at_zip::{TableChoice, Tables};
@@ -46,7 +46,7 @@ impl<A: Allocator + Copy> AtpPart<A> {
     }
 
     /// Begins a transaction, and sends its request.
-    pub fn ask(&mut self, seat: Seat, question: &Question<'_>, out: &mut Datagrams<A>) -> Report<A>
+    pub fn ask(&mut self, seat: Seat, question: &Question<'_>, out: &mut Outbox<A>) -> Report<A>
         requires some { 1 ≤ question.now.wanted }
         requires few { question.now.wanted ≤ 8 }
         ensures { IsStep (over (with_transactions self.old) (ask_called seat self.old.transactions question.now.to
@@ -62,7 +62,7 @@ impl<A: Allocator + Copy> AtpPart<A> {
         seat: Seat,
         key: Key,
         packets: &[Packet<A>],
-        out: &mut Datagrams<A>,
+        out: &mut Outbox<A>,
     ) -> Report<A>
         ensures { IsStep (over (with_transactions self.old)
             (answer_called seat self.old.transactions key packets.now)) self.old out.old.items result self.new
@@ -72,12 +72,7 @@ impl<A: Allocator + Copy> AtpPart<A> {
     }
 
     /// Asks the router for a zone table.
-    pub fn read_zones(
-        &mut self,
-        seat: Seat,
-        which: TableChoice,
-        out: &mut Datagrams<A>,
-    ) -> Report<A>
+    pub fn read_zones(&mut self, seat: Seat, which: TableChoice, out: &mut Outbox<A>) -> Report<A>
         ensures { IsStep (zones_called seat self.old which seat.router self.old.zones.reading) self.old out.old.items
             result self.new out.new.items }
     {
@@ -94,7 +89,7 @@ impl<A: Allocator + Copy> AtpPart<A> {
     }
 
     /// Sends the request of this number again, or closes its transaction. If that reads a zone table, the reading ends.
-    pub fn retry(&mut self, seat: Seat, tid: u16, out: &mut Datagrams<A>) -> Report<A>
+    pub fn retry(&mut self, seat: Seat, tid: u16, out: &mut Outbox<A>) -> Report<A>
         ensures { IsStep (retry_fired seat self.old tid (retried self.old.transactions.requester tid)) self.old
             out.old.items result self.new out.new.items }
     {

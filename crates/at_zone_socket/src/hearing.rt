@@ -11,7 +11,7 @@ ghost use Rattle.at_zone_socket.specs.AtpHearing.{AtRequester, HearsAt, HearsAtp
 use crate::atp_part::AtpPart;
 use crate::zone_socket::ZONE_SOCKET;
 use at_atp::Frame;
-use at_ddp::{Datagrams, Listed, Pascal};
+use at_ddp::{Listed, Outbox, Pascal};
 use at_event::{Report, Seat, Service, ZoneReport};
 use at_packet::AtpPacket;
 use at_transaction_socket::{Incoming, REQUESTER_SOCKET, SERVICE_SOCKET, refused};
@@ -25,7 +25,7 @@ impl<A: Allocator + Copy> AtpPart<A> {
         service: &mut S,
         packet: &AtpPacket<'_>,
         list: &mut Option<Listed<Pascal, A>>,
-        out: &mut Datagrams<A>,
+        out: &mut Outbox<A>,
     ) -> Report<A>
         ensures heard { (said : Said A)
             × Comes (HearsAtp said seat self.old packet.now) self.old out.old.items result self.new
@@ -53,7 +53,7 @@ impl<A: Allocator + Copy> AtpPart<A> {
         seat: Seat,
         packet: &AtpPacket<'_>,
         list: &mut Option<Listed<Pascal, A>>,
-        out: &mut Datagrams<A>,
+        out: &mut Outbox<A>,
     ) -> Report<A>
         ensures comes { (said : Said A)
             → Comes (HearsAt said seat self.old packet.now (Some Heard.Requester)) self.old out.old.items
@@ -72,7 +72,7 @@ impl<A: Allocator + Copy> AtpPart<A> {
         &mut self,
         packet: &Incoming<'_>,
         list: &mut Option<Listed<Pascal, A>>,
-        out: &mut Datagrams<A>,
+        out: &mut Outbox<A>,
     ) -> Report<A>
         ensures comes { Comes (AtRequester packet.now.seat self.old packet.now.from (content packet.now.frame)) self.old
             out.old.items result self.new out.new.items }
@@ -103,7 +103,7 @@ impl<A: Allocator + Copy> AtpPart<A> {
         seat: Seat,
         service: &mut S,
         packet: &AtpPacket<'_>,
-        out: &mut Datagrams<A>,
+        out: &mut Outbox<A>,
     ) -> Report<A>
         ensures { (said : Said A)
             × Comes (HearsAt said seat self.old packet.now (Some Heard.Service)) self.old out.old.items
@@ -121,7 +121,7 @@ impl<A: Allocator + Copy> AtpPart<A> {
         &mut self,
         seat: Seat,
         packet: &AtpPacket<'_>,
-        out: &mut Datagrams<A>,
+        out: &mut Outbox<A>,
     ) -> Report<A>
         ensures comes { (said : Said A)
             → Comes (HearsAt said seat self.old packet.now (option_map Heard.Zones self.old.zones.tables)) self.old

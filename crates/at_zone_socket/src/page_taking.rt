@@ -2,7 +2,7 @@
 //! gets two copies of it: one in the report, and one for the session.
 ghost use Rattle.std.specs.Prelude.{◌≡◌, ◌≢◌, ◌++◌, List, ℕ, None, Option, Some};
 ghost use Rattle.std.specs.Prelude.{IfSome, IsSome, true, false};
-ghost use Rattle.at_ddp.specs.Datagrams.{Posted};
+ghost use Rattle.at_ddp.specs.Outbox.{Posted};
 ghost use Rattle.at_atp_frame.specs.Frames.{content};
 ghost use Rattle.at_atp_requester.specs.Requests.{finishes, heard, next_number};
 ghost use Rattle.at_event.specs.Outcomes.{Comes, IsStep, wants_memory};
@@ -19,7 +19,7 @@ ghost use Rattle.at_zip.specs.declared.request.TableChoice.{TableChoice as Table
 
 use crate::zone_reading::{RETRIES, ZoneReading};
 use crate::zone_socket::ZoneSocket;
-use at_ddp::{Datagrams, Listed, Pascal};
+use at_ddp::{Listed, Outbox, Pascal};
 use at_event::{Report, TransactionReport, ZoneReport};
 use at_transaction_socket::{Incoming, TransactionSocket};
 use at_zip::{PageView, ZipFault, read_page, request_user};
@@ -36,7 +36,7 @@ impl<A: Allocator + Copy> ZoneSocket<A> {
         bytes: &[u8],
         transactions: &mut TransactionSocket<A>,
         list: &mut Option<Listed<Pascal, A>>,
-        out: &mut Datagrams<A>,
+        out: &mut Outbox<A>,
     ) -> Report<A>
         requires page { is_page A (both transactions.old (record self.old { reading = Some (reading_of reading) }))
             packet.now.from (content packet.now.frame) ≡ true }
@@ -64,7 +64,7 @@ impl<A: Allocator + Copy> ZoneSocket<A> {
         page: &PageView<'_>,
         transactions: &mut TransactionSocket<A>,
         list: &mut Option<Listed<Pascal, A>>,
-        out: &mut Datagrams<A>,
+        out: &mut Outbox<A>,
     ) -> Report<A>
         requires finishes { finishes A transactions.old.requester packet.now.from (content packet.now.frame) ≡ true }
         requires free { IsSome (next_number
@@ -134,7 +134,7 @@ impl<A: Allocator + Copy> ZoneSocket<A> {
         mut reading: ZoneReading<A>,
         page: &PageView<'_>,
         transactions: &mut TransactionSocket<A>,
-        out: &mut Datagrams<A>,
+        out: &mut Outbox<A>,
     ) -> Report<A>
         requires room { HasRoomFor reading.reader page.now }
         requires finishes { finishes A transactions.old.requester packet.now.from (content packet.now.frame) ≡ true }

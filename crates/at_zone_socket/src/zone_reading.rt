@@ -11,7 +11,7 @@ ghost use Rattle.at_zone_socket.specs.ZoneReading.{is_page, is_reading, reading_
 ghost use Rattle.at_zip.specs.Request.{request_user};
 
 use crate::zone_socket::{ZONE_SOCKET, ZoneSocket};
-use at_ddp::{Address, Datagrams};
+use at_ddp::{Address, Outbox};
 use at_event::{NodeFault, Report, Seat, TransactionReport, ZoneReport};
 use at_transaction_socket::{Incoming, Question, TransactionSocket, refused, tid_of};
 use at_zip::{PageView, TableChoice, ZoneReader, request_user};
@@ -38,7 +38,7 @@ impl<A: Allocator + Copy> ZoneSocket<A> {
         seat: Seat,
         which: TableChoice,
         transactions: &mut TransactionSocket<A>,
-        out: &mut Datagrams<A>,
+        out: &mut Outbox<A>,
     ) -> Report<A>
         ensures { IsStep (zones_called seat (both transactions.old self.old) which seat.router self.old.reading)
             (both transactions.old self.old) out.old.items result (both transactions.new self.new) out.new.items }

@@ -2,7 +2,7 @@
 //! zone table, for which the sockets for transactions are lent.
 ghost use Rattle.std.specs.Prelude.{◌≡◌, ◌≤◌, ◌++◌, ◌∷◌, List, [], map, length, find, None, Err, Some, false};
 ghost use Rattle.std.specs.Prelude.{IfOk, IfSome, IsOk, OnOk, OnErr, true};
-ghost use Rattle.at_ddp.specs.Datagrams.{Posted};
+ghost use Rattle.at_ddp.specs.Outbox.{Posted};
 ghost use Rattle.at_atp_frame.specs.Frames.{content, spelled_all};
 ghost use Rattle.at_atp_responder.specs.Records.{record_fault, is_key, after_answer, asked_for, fit, responses};
 ghost use Rattle.at_atp_responder.specs.Records.{expiry_fault};
@@ -18,7 +18,7 @@ ghost use Rattle.at_zip.specs.declared.Tables.{Tables as TwoTables};
 use crate::zone_reading::ZoneReading;
 use at_atp::laws::an_answer_at_once_leaves_no_record;
 use at_atp::{AtpFault, Frame, Key, NewRequest, Packet, Reception, Responder};
-use at_ddp::{ATP, Address, Datagrams, Listed, Outbox, Pascal};
+use at_ddp::{ATP, Address, Listed, Outbox, Pascal};
 use at_event::{NodeFault, Report, TransactionReport, ZoneReport};
 use at_transaction_socket::{Incoming, answer, hear, refused, release};
 use at_zip::{TableChoice, Tables, Zones, page, read_request};
@@ -91,7 +91,7 @@ impl<A: Allocator + Copy> ZoneSocket<A> {
     }
 
     /// Takes a packet for the zone socket of a router.
-    pub fn hear(&mut self, packet: &Incoming<'_>, out: &mut Datagrams<A>) -> Report<A>
+    pub fn hear(&mut self, packet: &Incoming<'_>, out: &mut Outbox<A>) -> Report<A>
         ensures comes { (tables : TwoTables A) → self.old.tables ≡ Some tables
             → Comes (AtZones packet.now.seat self.old packet.now.from tables (content packet.now.frame)) self.old
             out.old.items result self.new out.new.items }
@@ -102,7 +102,7 @@ impl<A: Allocator + Copy> ZoneSocket<A> {
             return Report::Ignored;
         };
         if let Frame::Release { .. } = packet.frame {
-            return release(self.alloc, &mut self.zone_responder, own, packet, out);
+            return release(&mut self.zone_responder, own, packet, out);
         }
         let Frame::Request { user, .. } = packet.frame else {
             return Report::Ignored;
@@ -153,7 +153,7 @@ fn serve_request<A: Allocator + Copy>(
     packet: &Incoming<'_>,
     zones: &Zones<A>,
     start: u16,
-    out: &mut Datagrams<A>,
+    out: &mut Outbox<A>,
 ) -> Report<A>
     requires { 1 ≤ start }
     ensures step { (s : SeatOf) (a : ZoneState) → a.zone_responder ≡ records.old → zones_at s.net s.number ≡ own →
@@ -178,7 +178,7 @@ fn serve_at_once<A: Allocator + Copy>(
     request: NewRequest,
     zones: &Zones<A>,
     start: u16,
-    out: &mut Datagrams<A>,
+    out: &mut Outbox<A>,
 ) -> Result<u8, AllocError>
     requires { 1 ≤ start }
     ensures count { IfOk result (λ count. count
@@ -189,12 +189,9 @@ fn serve_at_once<A: Allocator + Copy>(
         (spelled_all (responses request.key 0 request.bitmap (page_packet zones.now start ∷ []))))) }
     ensures nothing_sent { OnErr result (out.new.items ≡ out.old.items) }
 {
-    let alloc = *room.allocator();
     make_answer(room, zones, start)?;
-    let mut outbox = Outbox::lent(alloc, out, own, ATP);
-    let answered = Responder::answer_at_once(request, room, &mut outbox);
-    *out = outbox.into_list();
-    answered
+    out.send_from(own, ATP);
+    Responder::answer_at_once(request, room, out)
 }
 
 // Takes a request for the page from a place on, which has a record or gets one.
@@ -205,7 +202,7 @@ fn serve_filed<A: Allocator + Copy>(
     packet: &Incoming<'_>,
     zones: &Zones<A>,
     start: u16,
-    out: &mut Datagrams<A>,
+    out: &mut Outbox<A>,
 ) -> Report<A>
     requires { 1 ≤ start }
     ensures step { (s : SeatOf) (a : ZoneState) → a.zone_responder ≡ records.old → zones_at s.net s.number ≡ own →
@@ -213,7 +210,7 @@ fn serve_filed<A: Allocator + Copy>(
         (record a { zone_responder = records.new }) out.new.items }
     ensures not_asked { is_asked result ≡ false }
 {
-    match hear(*room.allocator(), records, own, packet, out) {
+    match hear(records, own, packet, out) {
         Err(fault) => refused(fault.number()),
         Ok(Reception::Ignored) => Report::Ignored,
         Ok(Reception::Again(_)) => Report::Again,
@@ -256,7 +253,7 @@ fn serve<A: Allocator + Copy>(
     key: Key,
     zones: &Zones<A>,
     start: u16,
-    out: &mut Datagrams<A>,
+    out: &mut Outbox<A>,
 ) -> Result<u8, AllocError>
     requires start { 1 ≤ start }
     requires waits { record_fault (find (is_key key) records.old) ≡ None }
@@ -271,7 +268,7 @@ fn serve<A: Allocator + Copy>(
     ensures nothing_sent { OnErr result (out.new.items ≡ out.old.items) }
 {
     let answered = match make_answer(room, zones, start) {
-        Ok(()) => answer(*room.allocator(), records, own, key, room, out),
+        Ok(()) => answer(records, own, key, room, out),
         Err(AllocError) => Err(AtpFault::NoMemory),
     };
     match answered {

@@ -5,7 +5,7 @@ ghost use Rattle.at_event.specs.declared.service.Reply.TheVariants.{Now};
 
 use at_adsp_end::Rooms;
 use at_atp::{Key, Packet};
-use at_ddp::{Bytes, Datagrams, Listed};
+use at_ddp::{Bytes, Listed, Outbox};
 use at_event::{
     Call, Deferring, PacketCount, Reply, Report, Seat, Service, TransactionCall, TransactionReport,
 };
@@ -88,7 +88,7 @@ fn exchange<R: Print + AllocGlobal>(
     client: &mut Node,
     server: &mut Node,
 ) -> io::Result<()> {
-    let mut sent = Datagrams::new(rt.alloc());
+    let mut sent = Outbox::new(rt.alloc());
     ask(rt, client, &mut sent)?;
     for _round in 0..MOST_ROUNDS {
         sent = hand_over(rt, client, server, &sent)?;
@@ -97,7 +97,7 @@ fn exchange<R: Print + AllocGlobal>(
 }
 
 // The client asks, and sends what it asks.
-fn ask<R: Print + AllocGlobal>(rt: &R, client: &mut Node, sent: &mut Datagrams) -> io::Result<()> {
+fn ask<R: Print + AllocGlobal>(rt: &R, client: &mut Node, sent: &mut Outbox) -> io::Result<()> {
     let request = request(rt.alloc())?;
     let report = client.call(&request, sent);
     tell(rt, CLIENT, &report)
@@ -121,9 +121,9 @@ fn hand_over<R: Print + AllocGlobal>(
     rt: &R,
     client: &mut Node,
     server: &mut Node,
-    sent: &Datagrams,
-) -> io::Result<Datagrams> {
-    let mut next = Datagrams::new(rt.alloc());
+    sent: &Outbox,
+) -> io::Result<Outbox> {
+    let mut next = Outbox::new(rt.alloc());
     for index in 0..sent.len() {
         let (to, bytes) = (sent.node(index), sent.get(index));
         match to {
@@ -139,7 +139,7 @@ fn serve<R: Print + AllocGlobal>(
     rt: &R,
     server: &mut Node,
     bytes: &[u8],
-    next: &mut Datagrams,
+    next: &mut Outbox,
 ) -> io::Result<()> {
     let mut service = Adding { alloc: rt.alloc() };
     let report = server.receive(&mut service, bytes, next);
@@ -147,12 +147,7 @@ fn serve<R: Print + AllocGlobal>(
 }
 
 // The client has no service.
-fn receive<R: Print>(
-    rt: &R,
-    client: &mut Node,
-    bytes: &[u8],
-    next: &mut Datagrams,
-) -> io::Result<()> {
+fn receive<R: Print>(rt: &R, client: &mut Node, bytes: &[u8], next: &mut Outbox) -> io::Result<()> {
     let report = client.receive(&mut Deferring, bytes, next);
     tell(rt, CLIENT, &report)
 }

@@ -9,14 +9,14 @@ ghost use Rattle.at_node.specs.Numbers.{name_draw};
 
 use crate::node::Node;
 use crate::numbers::Draw;
-use at_ddp::Datagrams;
+use at_ddp::Outbox;
 use at_event::{Call, NameCall, Report, Service};
 use at_nbp::is_no_name;
 use at_packet::NbpPacket;
 use std::alloc::Allocator;
 
 impl<A: Allocator + Copy> Node<A> {
-    pub(crate) fn call_names(&mut self, call: &NameCall, out: &mut Datagrams<A>) -> Report<A>
+    pub(crate) fn call_names(&mut self, call: &NameCall, out: &mut Outbox<A>) -> Report<A>
         ensures { IsStep (called self.old (Call.Names call.now)) self.old out.old.items result self.new out.new.items }
     {
         match call {
@@ -44,7 +44,7 @@ impl<A: Allocator + Copy> Node<A> {
         &mut self,
         service: &mut S,
         packet: &NbpPacket<'_>,
-        out: &mut Datagrams<A>,
+        out: &mut Outbox<A>,
     ) -> Report<A>
         requires { packet.now.kind ≡ nbp_kind }
         ensures { (said : Reply A)

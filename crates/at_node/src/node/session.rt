@@ -1,11 +1,11 @@
 //! What a node does for its user's session: what it keeps of reports, and the calls that use it.
 ghost use Rattle.std.specs.Prelude.{List};
-ghost use Rattle.at_ddp.specs.Datagrams.{Posted};
+ghost use Rattle.at_ddp.specs.Outbox.{Posted};
 ghost use Rattle.at_event.specs.Outcomes.{IsStep};
 ghost use Rattle.at_node.specs.Nodes.{called};
 
 use crate::node::Node;
-use at_ddp::{Datagrams, Pascal};
+use at_ddp::{Outbox, Pascal};
 use at_event::{Call, NameCall, NodeFault, Report, SessionCall, StreamCall};
 use std::alloc::Allocator;
 
@@ -46,7 +46,7 @@ impl<A: Allocator + Copy> Node<A> {
     }
 
     // Asks for a connection with what was found.
-    pub(crate) fn open(&mut self, index: u64, out: &mut Datagrams<A>) -> Report<A>
+    pub(crate) fn open(&mut self, index: u64, out: &mut Outbox<A>) -> Report<A>
         ensures { IsStep (called {A = A} self.old (Call.Streams (StreamCall.Open index))) self.old out.old.items result
             self.new out.new.items }
     {

@@ -10,13 +10,13 @@ ghost use Rattle.at_node.specs.Numbers.{stream_draw};
 use crate::node::Node;
 use crate::numbers::Draw;
 use at_adsp_ends::Tick;
-use at_ddp::Datagrams;
+use at_ddp::Outbox;
 use at_event::{Call, Report, Service, StreamCall, StreamTimer, Timer};
 use at_packet::AdspPacket;
 use std::alloc::Allocator;
 
 impl<A: Allocator + Copy> Node<A> {
-    pub(crate) fn call_streams(&mut self, call: &StreamCall<A>, out: &mut Datagrams<A>) -> Report<A>
+    pub(crate) fn call_streams(&mut self, call: &StreamCall<A>, out: &mut Outbox<A>) -> Report<A>
         ensures { IsStep (called self.old (Call.Streams call.now)) self.old out.old.items result self.new
             out.new.items }
     {
@@ -36,7 +36,7 @@ impl<A: Allocator + Copy> Node<A> {
         }
     }
 
-    pub(crate) fn stream_timer(&mut self, timer: StreamTimer, out: &mut Datagrams<A>) -> Report<A>
+    pub(crate) fn stream_timer(&mut self, timer: StreamTimer, out: &mut Outbox<A>) -> Report<A>
         ensures { IsStep (timed self.old (Timer.Streams timer)) self.old out.old.items result self.new out.new.items }
     {
         match timer {
@@ -50,7 +50,7 @@ impl<A: Allocator + Copy> Node<A> {
         &mut self,
         service: &mut S,
         packet: &AdspPacket<'_>,
-        out: &mut Datagrams<A>,
+        out: &mut Outbox<A>,
     ) -> Report<A>
         requires { packet.now.kind ≡ adsp_kind }
         ensures { (said : Reply A)

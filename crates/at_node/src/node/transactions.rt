@@ -10,7 +10,7 @@ ghost use Rattle.at_node.specs.Numbers.{transaction_draw};
 use crate::node::Node;
 use crate::numbers::Draw;
 use at_atp::MAX_DATA;
-use at_ddp::Datagrams;
+use at_ddp::Outbox;
 use at_event::{Call, Report, Service, Timer, TransactionCall, TransactionTimer};
 use at_packet::AtpPacket;
 use at_transaction_socket::Question;
@@ -20,7 +20,7 @@ impl<A: Allocator + Copy> Node<A> {
     pub(crate) fn call_transactions(
         &mut self,
         call: &TransactionCall<A>,
-        out: &mut Datagrams<A>,
+        out: &mut Outbox<A>,
     ) -> Report<A>
         ensures { IsStep (called self.old (Call.Transactions call.now)) self.old out.old.items result self.new
             out.new.items }
@@ -54,7 +54,7 @@ impl<A: Allocator + Copy> Node<A> {
     pub(crate) fn transaction_timer(
         &mut self,
         timer: TransactionTimer,
-        out: &mut Datagrams<A>,
+        out: &mut Outbox<A>,
     ) -> Report<A>
         ensures { IsStep (timed self.old (Timer.Transactions timer)) self.old out.old.items result self.new
             out.new.items }
@@ -70,7 +70,7 @@ impl<A: Allocator + Copy> Node<A> {
         &mut self,
         service: &mut S,
         packet: &AtpPacket<'_>,
-        out: &mut Datagrams<A>,
+        out: &mut Outbox<A>,
     ) -> Report<A>
         requires { packet.now.kind ≡ atp_kind }
         ensures { (said : Reply A)

@@ -6,12 +6,12 @@ ghost use Rattle.at_node.specs.Numbers.{zone_draw};
 
 use crate::node::Node;
 use crate::numbers::Draw;
-use at_ddp::Datagrams;
+use at_ddp::Outbox;
 use at_event::{Call, Report, ZoneCall};
 use std::alloc::Allocator;
 
 impl<A: Allocator + Copy> Node<A> {
-    pub(crate) fn call_zones(&mut self, call: &ZoneCall<A>, out: &mut Datagrams<A>) -> Report<A>
+    pub(crate) fn call_zones(&mut self, call: &ZoneCall<A>, out: &mut Outbox<A>) -> Report<A>
         ensures { IsStep (called self.old (Call.Zones call.now)) self.old out.old.items result self.new out.new.items }
     {
         match call {

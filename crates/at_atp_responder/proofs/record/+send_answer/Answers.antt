@@ -1,6 +1,6 @@
 use Rattle.std.proofs.lemmas.Grind.{common_steps}
 use Rattle.std.proofs.Common.{rules, ℕ, subst, arith}
-use Rattle.at_ddp.specs.Outbox.{HasRoomFor}
+use Rattle.at_ddp.specs.Sending.{HasRoomFor}
 use Rattle.at_atp_responder.proofs.RecordLemmas.{fit_rest, rest_is_less}
 use Rattle.at_atp_responder.proofs.record.+send_answer.Goals as goal
 

@@ -1,6 +1,6 @@
 use Rattle.std.proofs.Common.{◌≡◌, ◌-◌, ◌<◌, ◌∷◌, [], List, ℕ, length, map, drop, take, ap, subst, ◌∙◌, arith}
 use Rattle.std.proofs.lemmas.List.{length-map}
-use Rattle.at_ddp.specs.Outbox.{Sends}
+use Rattle.at_ddp.specs.Sending.{Sends}
 use Rattle.at_nbp.specs.Packets.{spelling}
 use Rattle.at_nbp.specs.Replies.{IsFull, sent_reply}
 use Rattle.at_nbp.specs.Tuples.{Entry, content}

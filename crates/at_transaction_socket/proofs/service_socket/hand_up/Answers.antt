@@ -10,8 +10,7 @@ returns-in-Ok-clause-replied g c =
       r.0,
       r.1,
       r.2,
-      posts c.lent-outbox.result c.reply-replied.new.out
-          (spelled_all (sent_by_reply c.args.records.now c.args.key r.0)) c.args.out.now.items c.into_list.result.items
-          c.args.own atp_kind r.3 c.lent-outbox.ensures.items c.lent-outbox.ensures.from
-          c.lent-outbox.ensures.kind c.into_list.ensures.items,
+      posts c.send_from.new.self c.reply.new.out (spelled_all (sent_by_reply c.args.records.now c.args.key r.0))
+          c.args.out.now.items c.args.own atp_kind r.3 c.send_from.ensures.items c.send_from.ensures.from
+          c.send_from.ensures.kind,
     )

@@ -1,6 +1,6 @@
 use Rattle.std.proofs.Common.{◌≡◌, ◌+◌, ◌%◌, ◌++◌, false, [], ◌∷◌, Some, refl, sym, ap, subst, ◌∙◌, arith, rules}
 use Rattle.std.specs.Prelude.{remove}
-use Rattle.at_ddp.specs.Outbox.{Sends}
+use Rattle.at_ddp.specs.Sending.{Sends}
 use Rattle.at_atp_frame.specs.Frames.{Content, content, spelled}
 use Rattle.at_atp_requester.specs.Requests.{IsRequester, Requests, beginning, closing, has_number, heard, is_of}
 use Rattle.at_atp_requester.specs.Requests.{next_number, request_by}

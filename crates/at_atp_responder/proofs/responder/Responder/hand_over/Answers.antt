@@ -1,6 +1,6 @@
 use Rattle.std.proofs.Common.{◌≤◌, ◌≡◌, List, length, true, subst, ap, ◌∙◌}
 use Rattle.std.specs.Prelude.{find}
-use Rattle.at_ddp.specs.Outbox.{Sends}
+use Rattle.at_ddp.specs.Sending.{Sends}
 use Rattle.at_atp_frame.specs.Frames.{spelled_all}
 use Rattle.at_atp_frame.specs.Packets.{Packet}
 use Rattle.at_atp_responder.specs.Records.{is_key, fit, Record, asked_for, after_answer}

@@ -1,7 +1,7 @@
 use Rattle.std.proofs.lemmas.Grind.{common_steps}
 use Rattle.std.proofs.Common.{arith, ◌≡◌, List, length, Ok, Err, subst, ap, ◌∙◌}
 use Rattle.std.specs.Prelude.{find, IfSome}
-use Rattle.at_ddp.specs.Outbox.{Sends}
+use Rattle.at_ddp.specs.Sending.{Sends}
 use Rattle.at_atp_frame.specs.Frames.{spelled_all}
 use Rattle.at_atp_responder.specs.Records.{is_key, Record, answer_fault, asked_for, after_answer}
 use Rattle.at_atp_responder.proofs.responder.Responder.respond.Goals as goal

@@ -1,7 +1,7 @@
 use Rattle.std.proofs.Common.{◌≡◌, ◌∙◌, ◌++◌, ◌∷◌, [], ℕ, List, map, Some, sym, ap, subst, arith}
 use Rattle.std.specs.Prelude.{find}
 use Rattle.at_ddp.proofs.Alls.{all_replaced}
-use Rattle.at_ddp.specs.Datagrams.{Datagrams}
+use Rattle.at_ddp.specs.Outbox.{Outbox}
 use Rattle.at_ddp.specs.Tables.{replaced}
 use Rattle.at_node.specs.Limits.{IsWithin}
 use Rattle.at_node.specs.Nodes.{NodeState}
@@ -68,7 +68,7 @@ returns-clause-driven g c =
     let node : NodeState = c.index_mut.result.now in
     let report = c.take-report.result in
     let after : NodeState = c.take-report.new.node in
-    let out : Datagrams = c.take-report.new.out in
+    let out : Outbox = c.take-report.new.out in
     let notes : List ℕ = c.send_all.ensures.0 in
     let view = c.self.view_is in
     let before : logged {A = g.row.A.Denot} c.reserve.new.self ≡ logged c.args.log.now = c.reserve.ensures.log

@@ -1,6 +1,6 @@
 use Rattle.std.proofs.Common.{◌∙◌, ◌+◌, ◌<◌, ◌≤◌, ◌++◌, ap, append-nil, arith, drop, length, subst, sym}
 use Rattle.std.proofs.lemmas.Bool.Decides.{nat_tests}
-use Rattle.at_ddp.specs.Datagrams.{Datagrams as Content}
+use Rattle.at_ddp.specs.Outbox.{Outbox as Content}
 use Rattle.at_held.specs.Waiting.{waiting_of}
 use Rattle.at_held.proofs.WaitingLemmas.{behind, turned}
 use Rattle.at_held.proofs.sent.Sent.pass.Goals as goal
@@ -18,7 +18,7 @@ returns-else-left-gt1 c =
     let few : length earlier ≤ taken + 1 = grind (arith, nat_tests, c.if-left-gt1.false, c.len.ensures) in
     let some = subst (λ w. 0 < length (waiting_of w)) (sym c.self.view_is) c.requires in
     ap (λ (d : Content). d.items ++ (c.swap.new.y).items) c.swap.ensures.x_after
-    ∙ ap (λ l. later ++ l) (ap (λ (d : Content). d.items) c.swap.ensures.y_after ∙ c.clear.ensures)
+    ∙ ap (λ l. later ++ l) (ap (λ (d : Content). d.items) c.swap.ensures.y_after ∙ c.clear.ensures.items)
     ∙ append-nil later
     ∙ sym (turned earlier taken later c.self.invariant.0 c.self.invariant.1 few some)
     ∙ ap (λ w. drop 1 (waiting_of w)) c.self.view_is

@@ -1,5 +1,5 @@
 use Rattle.std.proofs.Common.{List, ℕ, refl, sym, subst}
-use Rattle.at_ddp.specs.Outbox.{Sends}
+use Rattle.at_ddp.specs.Sending.{Sends}
 use Rattle.at_ddp.specs.declared.address.Address.{Address}
 use Rattle.at_nbp.specs.Packets.{packet_content}
 use Rattle.at_nbp.specs.Tuples.{content}

@@ -9,15 +9,15 @@ use Rattle.at_node.proofs.name_part.NamePart.ask_again.Goals as goal
 use Rattle.at_node.proofs.name_part.NamePart.ask_again.Goals.{in-Ok, in-Err}
 
 pub returns : goal.returns
-returns g c = elim c.match-asked.branch [
+returns g c = elim c.match-retry.branch [
   | in-Ok w ↦
       let n = c.self.inside.socket in
       rw w.result-is
       (subst (λ (x : SocketState). IsStep (lookup_fired {A = g.row.A.Denot} c.args.seat x c.args.id) x
-      c.args.out.now.items Again x c.into_list.result.items) c.self.view_is
-      (again_sent {A = g.row.A.Denot} c.args.seat n (search_of n.lookups c.args.id) c.lent-outbox.result
-      c.retry-asked.new.out c.args.out.now.items c.into_list.result.items
-      (λ e. let x = w.in-Ok.ensures.missing.1 e in absurd (cc)) w.in-Ok.ensures.ok c.lent-outbox.ensures.items
-      (c.lent-outbox.ensures.from ∙ c.at.ensures) c.lent-outbox.ensures.kind c.into_list.ensures.items))
+      c.args.out.now.items Again x c.retry.new.out.items) c.self.view_is
+      (again_sent {A = g.row.A.Denot} c.args.seat n (search_of n.lookups c.args.id) c.send_from.new.self
+      c.retry.new.out c.args.out.now.items (λ e. let x = w.in-Ok.ensures.missing.1 e in absurd (cc))
+      w.in-Ok.ensures.ok c.send_from.ensures.items (c.send_from.ensures.from ∙ c.at.ensures)
+      c.send_from.ensures.kind))
   | in-Err w ↦ search rules
 ]

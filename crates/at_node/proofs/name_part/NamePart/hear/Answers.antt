@@ -27,23 +27,22 @@ returns-clause-comes g c =
     let its : (d.to.socket == 2) ≡ true = ap (λ (d : Content). d.to.socket == 2) (sym c.datagram-datagram.ensures)
     ∙ eq-eqb (content c.datagram-datagram.result).to.socket 2 c.if-datagram-ne-NAME_SOCKET.false in
     rw its
-    (elim c.match-heard.branch [
+    (elim c.match-hear.branch [
       | in-Ok w ↦
           let ok = w.in-Ok.ensures.ok in
-          let one : c.match-heard.result ≡ told_by w.in-Ok.heard = w.result-is ∙ w.told_by.ensures.report in
+          let one : c.match-hear.result ≡ told_by w.in-Ok.heard = w.result-is ∙ w.told_by.ensures.report in
           rw one
           (subst (λ (x : SocketState). Comes (HearsData {A = g.row.A.Denot} s x d.data_) x items
-          (told_by w.in-Ok.heard) c.hear-heard.new.self c.into_list.result.items) c.self.view_is
-          (heard_comes g.row.A.Denot s n d.data_ items w.in-Ok.heard c.hear-heard.new.self ok.0
-          c.lent-outbox.result c.hear-heard.new.out c.into_list.result.items ok.1 ok.2
-          c.lent-outbox.ensures.items (c.lent-outbox.ensures.from ∙ c.at.ensures) c.lent-outbox.ensures.kind
-          c.into_list.ensures.items))
+          (told_by w.in-Ok.heard) c.hear.new.self c.hear.new.out.items) c.self.view_is
+          (heard_comes g.row.A.Denot s n d.data_ items w.in-Ok.heard c.hear.new.self ok.0
+          c.send_from.new.self c.hear.new.out ok.1 ok.2 c.send_from.ensures.items
+          (c.send_from.ensures.from ∙ c.at.ensures) c.send_from.ensures.kind))
       | in-Err w ↦
           let e = w.in-Err.ensures in
           let nothing = e.nothing_sent in
-          let same : c.hear-heard.new.self ≡ c.args.self.now = e.unchanged ∙ c.self.view_is in
-          let stays : c.into_list.result.items ≡ items = c.into_list.ensures.items ∙ nothing.items
-          ∙ append-nil c.lent-outbox.result.items ∙ c.lent-outbox.ensures.items in
+          let same : c.hear.new.self ≡ c.args.self.now = e.unchanged ∙ c.self.view_is in
+          let stays : c.hear.new.out.items ≡ items = nothing.items ∙ append-nil c.send_from.new.self.items
+          ∙ c.send_from.ensures.items in
           rw (w.result-is, same, stays)
           (subst (λ (x : SocketState). Comes (HearsData {A = g.row.A.Denot} s x d.data_) x items w.refused.result x
           items) c.self.view_is

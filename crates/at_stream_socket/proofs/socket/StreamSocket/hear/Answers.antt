@@ -8,7 +8,7 @@ use Rattle.at_stream_socket.specs.Hearing.{HearsStreams}
 use Rattle.at_stream_socket.proofs.CallLemmas.{IsBox}
 use Rattle.at_stream_socket.proofs.HearLemmas.{fault_comes, ignored_ok, other_ignored, reported, taken_comes}
 use Rattle.at_stream_socket.proofs.socket.StreamSocket.hear.Goals as goal
-use Rattle.at_stream_socket.proofs.socket.StreamSocket.hear.Goals.{in-Ok-heard, in-Err-heard}
+use Rattle.at_stream_socket.proofs.socket.StreamSocket.hear.Goals.{in-Ok-receive, in-Err-receive}
 
 pub returns-then-datagram-clause-comes : goal.returns-then-datagram-clause-comes
 returns-then-datagram-clause-comes g c =
@@ -29,29 +29,25 @@ returns-in-Err-clause-comes g c =
 pub returns-clause-comes : goal.returns-clause-comes
 returns-clause-comes g c =
     let d = content c.datagram-datagram.result in
-    let box : IsBox c.args.seat c.lent-outbox.result c.receive-heard.new.out c.args.out.now.items
-    c.into_list.result.items =
-    record {
-      items = c.lent-outbox.ensures.items;
-      from = c.lent-outbox.ensures.from ∙ c.at.ensures;
-      kind = c.lent-outbox.ensures.kind;
-      back = c.into_list.ensures.items;
+    let box : IsBox c.args.seat c.send_from.new.self c.args.out.now.items = record {
+      items = c.send_from.ensures.items;
+      from = c.send_from.ensures.from ∙ c.at.ensures;
+      kind = c.send_from.ensures.kind;
     } in
-    let same : c.match-heard.result ≡ reported c.receive-heard.result = elim c.match-heard.branch [
-      | in-Ok-heard w ↦ w.result-is ∙ w.told_by.ensures.report
-          ∙ ap (reported {A = g.row.A.Denot}) (sym w.in-Ok-heard.is)
-      | in-Err-heard w ↦ w.result-is ∙ ap (reported {A = g.row.A.Denot}) (sym w.in-Err-heard.is)
+    let same : c.match-receive.result ≡ reported c.receive.result = elim c.match-receive.branch [
+      | in-Ok-receive w ↦ w.result-is ∙ w.told_by.ensures.report
+          ∙ ap (reported {A = g.row.A.Denot}) (sym w.in-Ok-receive.is)
+      | in-Err-receive w ↦ w.result-is ∙ ap (reported {A = g.row.A.Denot}) (sym w.in-Err-receive.is)
     ] in
-    let heeds = ignored_ok c.self.inside.ends d.from (segment_in c.in-Ok.segment) c.lent-outbox.result
-    c.receive-heard.result
+    let heeds = ignored_ok c.self.inside.ends d.from (segment_in c.in-Ok.segment) c.send_from.new.self
+    c.receive.result
     (c.what_is_ignored_does_nothing.ensures c.self.inside.ends d.from (segment_in c.in-Ok.segment))
-    c.receive-heard.ensures.memory in
+    c.receive.ensures.memory in
     subst (λ (d : Content). Comes (HearsStreams c.args.seat c.args.self.now d) c.args.self.now c.args.out.now.items
-    c.match-heard.result c.receive-heard.new.self c.into_list.result.items) c.datagram-datagram.ensures
+    c.match-receive.result c.receive.new.self c.receive.new.out.items) c.datagram-datagram.ensures
     (rw (same, ← c.self.view_is)
     (taken_comes g.row.A.Denot c.args.seat c.self.inside.ends d c.args.out.now.items
-    (eq-eqb d.to.socket 130 c.if-datagram.false) c.receive-heard.new.self
-    (segment_in c.in-Ok.segment) c.receive-heard.result c.lent-outbox.result c.receive-heard.new.out
-    c.into_list.result.items
+    (eq-eqb d.to.socket 130 c.if-datagram.false) c.receive.new.self
+    (segment_in c.in-Ok.segment) c.receive.result c.send_from.new.self c.receive.new.out
     (subst (λ (d : Content). Spells d.data_ (segment_in c.in-Ok.segment)) (sym c.datagram-datagram.ensures)
-    c.in-Ok.ensures.found) box c.receive-heard.ensures.taken heeds))
+    c.in-Ok.ensures.found) box c.receive.ensures.taken heeds))

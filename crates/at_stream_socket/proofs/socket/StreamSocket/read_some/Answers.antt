@@ -14,22 +14,19 @@ pub returns : goal.returns
 returns g c =
     let t = c.self.inside.ends in
     let all : length c.deref_mut.result.now ≡ c.args.count = c.deref_mut.ensures.len ∙ c.in-Ok.ensures.len in
-    let box : IsBox c.args.seat c.lent-outbox.result c.read-read.new.out c.args.out.now.items
-    c.into_list.result.items =
-    record {
-      items = c.lent-outbox.ensures.items;
-      from = c.lent-outbox.ensures.from ∙ c.at.ensures;
-      kind = c.lent-outbox.ensures.kind;
-      back = c.into_list.ensures.items;
+    let box : IsBox c.args.seat c.send_from.new.self c.args.out.now.items = record {
+      items = c.send_from.ensures.items;
+      from = c.send_from.ensures.from ∙ c.at.ensures;
+      kind = c.send_from.ensures.kind;
     } in
     let same : c.match-read.result
-    ≡ reported {A = g.row.A.Denot} told_read (read_of c.read-read.result c.read-read.new.items) =
+    ≡ reported {A = g.row.A.Denot} told_read (read_of c.read.result c.read.new.items) =
     elim c.match-read.branch [
       | in-Ok-read w ↦
           let count = w.in-Ok-read.count in
-          let new = c.read-read.new.items in
+          let new = c.read.new.items in
           let rest = drop (length new) c.resize.new.self.items in
-          let same_length = c.read-read.auto.items in
+          let same_length = c.read.auto.items in
           let within = w.in-Ok-read.ensures.within in
           let few : count ≤ length new = omega (arith, within, same_length) in
           let len : length c.deref_mut.result.now ≡ c.resize.new.self.len = c.deref_mut.ensures.len in
@@ -38,18 +35,18 @@ returns g c =
           ≡ take count new = take-take count c.resize.new.self.len (new ++ rest) fits
           ∙ take-append-le count new rest few in
           w.result-is ∙ ap told_read (w.from_vec.ensures ∙ w.truncate.ensures.items ∙ read)
-          ∙ ap (λ r. reported {A = g.row.A.Denot} told_read (read_of r c.read-read.new.items))
+          ∙ ap (λ r. reported {A = g.row.A.Denot} told_read (read_of r c.read.new.items))
           (sym w.in-Ok-read.is)
       | in-Err w ↦ w.result-is ∙ w.refused_by.ensures
-          ∙ ap (λ r. reported {A = g.row.A.Denot} told_read (read_of r c.read-read.new.items)) (sym w.in-Err.is)
+          ∙ ap (λ r. reported {A = g.row.A.Denot} told_read (read_of r c.read.new.items)) (sym w.in-Err.is)
     ] in
     let call = subst (λ n. IsCalled (read_at wire t n (by_id t c.args.id))
-    (read_of c.read-read.result c.read-read.new.items) t c.read-read.new.self c.lent-outbox.result
-    c.read-read.new.out) all c.read-read.ensures.call in
+    (read_of c.read.result c.read.new.items) t c.read.new.self c.send_from.new.self
+    c.read.new.out) all c.read.ensures.call in
     rw (same, ← c.self.view_is)
-    (call_step c.args.seat t c.read-read.new.self told_read (read_at wire t c.args.count (by_id t c.args.id))
-    (read_of c.read-read.result c.read-read.new.items) c.lent-outbox.result c.read-read.new.out
-    c.args.out.now.items c.into_list.result.items (λ x. refl) (λ d is. refl) box call)
+    (call_step c.args.seat t c.read.new.self told_read (read_at wire t c.args.count (by_id t c.args.id))
+    (read_of c.read.result c.read.new.items) c.send_from.new.self c.read.new.out
+    c.args.out.now.items (λ x. refl) (λ d is. refl) box call)
 
 pub returns-in_default : goal.returns-in_default
 returns-in_default g c =

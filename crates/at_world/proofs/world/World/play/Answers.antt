@@ -1,6 +1,6 @@
 use Rattle.std.proofs.Common.{◌∙◌, List, sym, ap, refl, subst, arith}
 use Rattle.std.specs.List.{position_from}
-use Rattle.at_ddp.specs.Datagrams.{Posted}
+use Rattle.at_ddp.specs.Outbox.{Posted}
 use Rattle.at_ddp.proofs.TableLemmas.{Found, found_by, none_by}
 use Rattle.at_nodes.specs.Nodes.{AreWithin}
 use Rattle.at_nodes.specs.Nodes.{is_numbered}

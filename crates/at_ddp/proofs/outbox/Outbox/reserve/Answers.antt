@@ -1,5 +1,5 @@
 use Rattle.std.proofs.Common.{rules}
-use Rattle.at_ddp.proofs.datagrams.Datagrams.reserve.Goals as goal
+use Rattle.at_ddp.proofs.outbox.Outbox.reserve.Goals as goal
 
 pub returns-clause-ok : goal.returns-clause-ok
 returns-clause-ok g c = search rules

@@ -1,10 +1,10 @@
 use Rattle.std.proofs.Common.{◌≡◌, length, ap, ◌∙◌, sym, arith}
 use Rattle.std.specs.Prelude.{slice_get}
 use Rattle.std.proofs.lemmas.Option.{get_or_from_slice_get}
-use Rattle.at_ddp.specs.Datagrams.{Datagrams}
-use Rattle.at_ddp.specs.declared.datagrams.Mark.{Mark}
+use Rattle.at_ddp.specs.Outbox.{Outbox}
+use Rattle.at_ddp.specs.declared.outbox.Mark.{Mark}
 use Rattle.at_ddp.proofs.MarkLemmas.{length-pieces, lies_in}
-use Rattle.at_ddp.proofs.datagrams.Datagrams.node.Goals as goal
+use Rattle.at_ddp.proofs.outbox.Outbox.node.Goals as goal
 
 pub index-requires : goal.index-requires
 index-requires g c = omega (
@@ -12,12 +12,12 @@ index-requires g c = omega (
   c.self.inside.marks.ok.0,
   length-pieces 0 c.self.inside.marks.items c.self.inside.bytes.items,
   ap
-      (λ (d : Datagrams). length d.items) c.self.view_is,
+      (λ (d : Outbox). length d.items) c.self.view_is,
 )
 
 pub returns : goal.returns
 returns g c =
-    let is = ap (λ (d : Datagrams). d.items) c.self.view_is in
+    let is = ap (λ (d : Outbox). d.items) c.self.view_is in
     let at = lies_in c.args.self.now.items c.self.inside.marks.items c.self.inside.bytes.items c.args.index is
     c.self.invariant c.requires in
     let mark : c.index.result.now ≡ at.0 = c.index.ensures

@@ -1,5 +1,5 @@
 use Rattle.std.proofs.Common.{rules}
-use Rattle.at_ddp.proofs.datagrams.Datagrams.new.Goals as goal
+use Rattle.at_ddp.proofs.outbox.Outbox.new.Goals as goal
 
 pub returns : goal.returns
 returns g c = search rules

@@ -1,9 +1,9 @@
 use Rattle.std.proofs.Common.{◌≡◌, ◌≤◌, ◌++◌, arith, ap, refl, ◌∙◌, length, sym, subst, get_or}
 use Rattle.at_ddp.specs.Marks.{AreMarks, pieces}
 use Rattle.at_ddp.proofs.MarkLemmas.{both, mark_within}
-use Rattle.at_ddp.proofs.datagrams.Datagrams.append.Given.{Over}
-use Rattle.at_ddp.proofs.datagrams.Datagrams.append.Goals.{After-clear}
-use Rattle.at_ddp.proofs.datagrams.Datagrams.append.Goals as goal
+use Rattle.at_ddp.proofs.outbox.Outbox.append.Given.{Over}
+use Rattle.at_ddp.proofs.outbox.Outbox.append.Goals.{After-clear}
+use Rattle.at_ddp.proofs.outbox.Outbox.append.Goals as goal
 
 pub push_marks-requires-clause-fits : goal.push_marks-requires-clause-fits
 push_marks-requires-clause-fits g c k d lt =
@@ -42,4 +42,4 @@ invariant_of-self-2 g c = (moved g c).0
 
 pub returns-clause-ok : goal.returns-clause-ok
 returns-clause-ok g c =
-    ((moved g c).1 ∙ rw (sym c.self.view_is, sym c.other.view_is) refl, c.clear.ensures)
+    ((moved g c).1 ∙ rw (sym c.self.view_is, sym c.other.view_is) refl, c.clear.ensures.items)

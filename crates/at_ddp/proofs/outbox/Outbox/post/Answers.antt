@@ -1,7 +1,7 @@
 use Rattle.std.proofs.Common.{ap, ◌∙◌}
-use Rattle.at_ddp.specs.Datagrams.{Datagrams}
+use Rattle.at_ddp.specs.Outbox.{Outbox}
 use Rattle.at_ddp.proofs.MarkLemmas.{in_parts, marks_after, pieces_after}
-use Rattle.at_ddp.proofs.datagrams.Datagrams.push.Goals as goal
+use Rattle.at_ddp.proofs.outbox.Outbox.post.Goals as goal
 
 pub invariant_of-self : goal.invariant_of-self
 invariant_of-self g c =
@@ -24,4 +24,4 @@ returns-clause-ok g c =
     pieces_after c.self.inside.marks.items _ c.self.inside.bytes.items _ _ c.args.node _ c.self.invariant
     (in_parts c.self.inside.bytes.items _ _ _ c.args.header.now c.args.front.now c.args.back.now first second third)
     last
-    (ap (λ (d : Datagrams). d.items) c.self.view_is ∙ c.in_ok-reserve.ensures.items)
+    (ap (λ (d : Outbox). d.items) c.self.view_is ∙ c.in_ok-reserve.ensures.items)

@@ -1,11 +1,11 @@
 use Rattle.std.proofs.Common.{◌≡◌, ◌<◌, ◌≤◌, ℕ, List, length, ap, ◌∙◌, sym, arith, Some}
 use Rattle.std.specs.Prelude.{slice_get, slice_range}
-use Rattle.at_ddp.specs.Datagrams.{Datagrams, Posted}
+use Rattle.at_ddp.specs.Outbox.{Outbox, Posted}
 use Rattle.at_ddp.specs.Marks.{pieces, AreMarks, start_at}
-use Rattle.at_ddp.specs.declared.datagrams.Mark.{Mark}
+use Rattle.at_ddp.specs.declared.outbox.Mark.{Mark}
 use Rattle.at_ddp.proofs.MarkLemmas.{length-pieces, lies_in}
-use Rattle.at_ddp.proofs.datagrams.Datagrams.get.Given.{Over}
-use Rattle.at_ddp.proofs.datagrams.Datagrams.get.Goals as goal
+use Rattle.at_ddp.proofs.outbox.Outbox.get.Given.{Over}
+use Rattle.at_ddp.proofs.outbox.Outbox.get.Goals as goal
 
 -- the bytes lie between the two places that `span` returns
 record Spans (items : List Posted) (now : List ℕ) (i start end : ℕ) : Type 0 where
@@ -32,7 +32,7 @@ here : (g : Over) (c : goal.After-deref-2 g)
     → Spans c.args.self.now.items c.deref-2.result.now c.args.index c.span-start.result.0 c.span-start.result.1
 here g c = spans c.args.self.now.items c.self.inside.marks.items c.self.inside.bytes.items c.deref-2.result.now
     c.deref.result.now c.args.index _ _
-    (ap (λ (d : Datagrams). d.items) c.self.view_is) c.self.invariant c.requires c.deref.ensures.value
+    (ap (λ (d : Outbox). d.items) c.self.view_is) c.self.invariant c.requires c.deref.ensures.value
     c.deref-2.ensures.value c.span-start.ensures.start c.span-start.ensures.end
 
 pub span-start-requires : goal.span-start-requires
@@ -41,7 +41,7 @@ span-start-requires g c =
       arith,
       ap length c.deref.ensures.value,
       length-pieces 0 c.self.inside.marks.items c.self.inside.bytes.items,
-      ap (λ (d : Datagrams). length d.items) c.self.view_is,
+      ap (λ (d : Outbox). length d.items) c.self.view_is,
     )
 
 pub slice_bounds-result-count : goal.slice_bounds-result-count
@@ -56,5 +56,5 @@ slice_bounds-result-end g c = (here g c).within
 pub returns : goal.returns
 returns g c = (spans c.args.self.now.items c.self.inside.marks.items c.self.inside.bytes.items c.deref-2.result.now
     c.deref.result.now c.args.index _ _
-    (ap (λ (d : Datagrams). d.items) c.self.view_is) c.self.invariant c.requires c.deref.ensures.value
+    (ap (λ (d : Outbox). d.items) c.self.view_is) c.self.invariant c.requires c.deref.ensures.value
     c.deref-2.ensures.value c.span-start.ensures.start c.span-start.ensures.end).item

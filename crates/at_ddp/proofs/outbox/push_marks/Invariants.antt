@@ -1,6 +1,6 @@
 use Rattle.std.proofs.Common.{◌≡◌, ◌≤◌, ◌++◌, take, map, vec_capacity}
 use Rattle.at_ddp.specs.Marks.{behind}
-use Rattle.at_ddp.proofs.datagrams.push_marks.Given as goal
+use Rattle.at_ddp.proofs.outbox.push_marks.Given as goal
 
 -- the marks so far are appended, and the room for the others stays
 abbrev pub invariant-loop-mark : goal.invariant-loop-mark
