@@ -18,11 +18,12 @@ use Rattle.at_ddp.proofs.PostLemmas.{put_elsewhere, sent_both, sent_implied, sen
 use Rattle.at_adsp.specs.Network.{Setting, Made, Sent, Network, NoneNames, beginning, birth_of, dest_of, does, is_kept}
 use Rattle.at_adsp.specs.Network.{is_no_later, joined, named, newest, noted}
 use Rattle.at_adsp.specs.Streams.{Nothing}
-use Rattle.at_adsp.proofs.Distinct.{IdsApart, IsDrawn, Others, apart, differ_more}
+use Rattle.at_adsp.proofs.Distinct.{IdsApart, IsDrawn, Others, differ_more}
 use Rattle.at_adsp.proofs.Finds.{none_finds}
 use Rattle.at_adsp.proofs.Growth.{born_more, itself}
 use Rattle.at_adsp.proofs.Sayings.{Says, said_fresh}
 use Rattle.at_adsp.proofs.Sound.{Fresh, HasPeer, IsKnown, Lawful, Sound, Stands, mutual_kept, tells_kept}
+use Rattle.at_ddp.proofs.EqualLemmas.{apart}
 
 -- an end that begins
 pub record Begins (setting : Setting) (n : Network) (at : Address) (e : EndState) : Type 0 where

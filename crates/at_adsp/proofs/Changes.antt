@@ -18,12 +18,13 @@ use Rattle.std.proofs.lemmas.Bool.{and_right}
 use Rattle.at_adsp.specs.Network.{Setting, Made, Sent, Network, changed, dest_of, does_with, is_end, is_fresh}
 use Rattle.at_adsp.specs.Network.{is_no_later, joined, named, names_now, newest, noted_with}
 use Rattle.at_adsp.specs.Streams.{Deed}
-use Rattle.at_adsp.proofs.Distinct.{IdsApart, all_moved, apart, differ_replaced}
+use Rattle.at_adsp.proofs.Distinct.{IdsApart, all_moved, differ_replaced}
 use Rattle.at_adsp.proofs.Finds.{all_same, apart_in, replaced_found}
 use Rattle.at_adsp.proofs.Growth.{Grows, born_kept, fall_kept, itself, named_kept, newest_kept}
 use Rattle.at_adsp.proofs.Sayings.{Says, said_fresh}
 use Rattle.at_adsp.proofs.Sound.{Fresh, HasPeer, IsKnown, Lawful, Sound, Stands, mutual_kept, opened_reaches}
 use Rattle.at_adsp.proofs.Sound.{tells_kept}
+use Rattle.at_ddp.proofs.EqualLemmas.{apart}
 
 -- an end moves: what it is stays, and so does its remote once it has one
 pub record Moves (e f : EndState) : Type 0 where

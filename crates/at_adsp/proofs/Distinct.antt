@@ -9,15 +9,9 @@ use Rattle.at_ddp.proofs.Alls.{all_both, all_replaced, all_without, none_any}
 use Rattle.at_ddp.proofs.NumberLemmas.{is_free}
 use Rattle.at_adsp_end.specs.Ends.{EndState}
 use Rattle.at_adsp_ends.specs.Tables.{EndTable, has_id, following, free_id, next_id}
+use Rattle.at_ddp.proofs.EqualLemmas.{apart}
 
 -- ---- numbers that differ
-
-pub apart : (a b : ℕ) → (a == b) ≡ false → (b == a) ≡ false
-apart a b h = go (b == a) refl
-  where
-    go : (c : Bool) → (b == a) ≡ c → c ≡ false
-    go false e = refl
-    go true e = absurd (true≢false (sym (eq-eqb a b (sym (eqb-true b a e))) ∙ h))
 
 -- ---- tables
 

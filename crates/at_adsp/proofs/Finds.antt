@@ -4,9 +4,7 @@ use Rattle.std.specs.Prelude.{find, map, ◌&&◌, ◌||◌}
 use Rattle.std.specs.List.{list_all, list_any}
 use Rattle.std.proofs.lemmas.Bool.{true≢false}
 use Rattle.at_ddp.specs.Tables.{replaced}
-
-pub some_same : {X : Type 0} (x y : X) → Some x ≡ Some y → x ≡ y
-some_same x y h = cc
+use Rattle.std.proofs.lemmas.Option.{same_Some}
 
 -- what is found stays, or grows where it is what is replaced
 pub kept_in : {X : Type 0} (G : X → X → Type 0) → ((z : X) → G z z) → (p q : X → Bool) (x y : X) (xs : List X) → G x y
@@ -18,7 +16,7 @@ kept_in {X} G itself p q x y (z ∷ zs) grows same is w there = go (λ f g. kept
   where
     here : (a b : Bool) → q z ≡ a → q y ≡ b → z ≡ x → cond a (Some z) (find q zs) ≡ Some w → (u : X)
         × (cond b (Some y) (find q zs) ≡ Some u) × G w u
-    here true true e f s g = (y, refl, subst (λ v. G v y) (sym s ∙ some_same z w g) grows)
+    here true true e f s g = (y, refl, subst (λ v. G v y) (sym s ∙ same_Some z w g) grows)
     here true false e f s g = absurd (true≢false (sym e ∙ ap q s ∙ sym same ∙ f))
     here false true e f s g = absurd (true≢false (sym f ∙ same ∙ ap q (sym s) ∙ e))
     here false false e f s g = (w, g, itself w)
@@ -27,9 +25,9 @@ kept_in {X} G itself p q x y (z ∷ zs) grows same is w there = go (λ f g. kept
         (a : Bool) → cond a (Some z) (find p zs) ≡ Some x → (b : Bool) → q z ≡ b → cond b (Some z) (find q zs)
         ≡ Some w →
         (u : X) × (find q (cond a (y ∷ zs) (z ∷ replaced p y zs)) ≡ Some u) × G w u
-    go ih true f b e g = here b (q y) e refl (some_same z x f) g
+    go ih true f b e g = here b (q y) e refl (same_Some z x f) g
     go ih false f true e g =
-        (z, ap (λ c. cond c (Some z) (find q (replaced p y zs))) e, subst (λ v. G v z) (some_same z w g) (itself z))
+        (z, ap (λ c. cond c (Some z) (find q (replaced p y zs))) e, subst (λ v. G v z) (same_Some z w g) (itself z))
     go ih false f false e g = let more = ih f g in
         (more.0, ap (λ c. cond c (Some z) (find q (replaced p y zs))) e ∙ more.1, more.2)
 
@@ -44,7 +42,7 @@ apart_in {X} p q x y (z ∷ zs) is a b = go (λ f. apart_in p q x y zs f a b) (p
         find q (cond c (y ∷ zs) (z ∷ replaced p y zs)) ≡ cond (q z) (Some z) (find q zs)
     go ih true f =
         ap (λ c. cond c (Some y) (find q zs)) b
-        ∙ sym (ap (λ c. cond c (Some z) (find q zs)) (ap q (some_same z x f) ∙ a))
+        ∙ sym (ap (λ c. cond c (Some z) (find q zs)) (ap q (same_Some z x f) ∙ a))
     go ih false f = ap (λ o. cond (q z) (Some z) o) (ih f)
 
 -- a test of all entries that does not tell the two apart
@@ -56,20 +54,8 @@ all_same {X} f p x y (z ∷ zs) same is = go (λ g. all_same f p x y zs same g) 
     go : (find p zs ≡ Some x → list_all f (replaced p y zs) ≡ list_all f zs) → (c : Bool) → cond c (Some z) (find p zs)
         ≡ Some x →
         list_all f (cond c (y ∷ zs) (z ∷ replaced p y zs)) ≡ (f z && list_all f zs)
-    go ih true g = ap (λ c. c && list_all f zs) (same ∙ ap f (sym (some_same z x g)))
+    go ih true g = ap (λ c. c && list_all f zs) (same ∙ ap f (sym (same_Some z x g)))
     go ih false g = ap (λ c. f z && c) (ih g)
-
--- what one test finds, another that it passes finds too, or something before it
-pub found_too : {X : Type 0} (p q : X → Bool) (x : X) (xs : List X) → find q xs ≡ Some x → p x ≡ true → (o : X)
-    × (find p xs ≡ Some o)
-found_too p q x [] is passes = absurd (cc)
-found_too {X} p q x (z ∷ zs) is passes = go (λ f. found_too p q x zs f passes) (p z) refl (q z) is
-  where
-    go : (find q zs ≡ Some x → (o : X) × (find p zs ≡ Some o)) → (a : Bool) → p z ≡ a → (b : Bool)
-        → cond b (Some z) (find q zs) ≡ Some x → (o : X) × (find p (z ∷ zs) ≡ Some o)
-    go ih true e b f = (z, ap (λ c. cond c (Some z) (find p zs)) e)
-    go ih false e true f = absurd (true≢false (sym passes ∙ ap p (sym (some_same z x f)) ∙ e))
-    go ih false e false f = let more = ih f in (more.0, ap (λ c. cond c (Some z) (find p zs)) e ∙ more.1)
 
 pub none_finds : {X : Type 0} (p : X → Bool) (xs : List X) → list_any p xs ≡ false → find p xs ≡ None
 none_finds p [] h = refl
@@ -99,5 +85,5 @@ map_same {X} {Y} f p x y (z ∷ zs) same is = go (λ g. map_same f p x y zs same
   where
     go : (find p zs ≡ Some x → map f (replaced p y zs) ≡ map f zs) → (b : Bool) → cond b (Some z) (find p zs) ≡ Some x
         → map f (cond b (y ∷ zs) (z ∷ replaced p y zs)) ≡ f z ∷ map f zs
-    go ih true g = ap (λ v. v ∷ map f zs) (same ∙ ap f (sym (some_same z x g)))
+    go ih true g = ap (λ v. v ∷ map f zs) (same ∙ ap f (sym (same_Some z x g)))
     go ih false g = ap (λ l. f z ∷ l) (ih g)

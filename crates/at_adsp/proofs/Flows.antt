@@ -19,13 +19,14 @@ use Rattle.at_adsp.specs.Streams.{Stream, Deed, Nothing, read_after, written_aft
 use Rattle.at_adsp.proofs.Beginnings.{Begins, kept_before}
 use Rattle.at_adsp.proofs.Carries.{Carries, CarriesPart, Goes, Writer, part_grows, writer_of}
 use Rattle.at_adsp.proofs.Changes.{Moves, fresh_same, made_is, newest_now, there}
-use Rattle.at_adsp.proofs.Finds.{none_finds, some_same}
+use Rattle.at_adsp.proofs.Finds.{none_finds}
 use Rattle.at_adsp.proofs.Growth.{Fall, births_kept, found_below, unequal}
 use Rattle.at_adsp.proofs.Hears.{Reader}
 use Rattle.at_adsp.proofs.Logs.{Log, nothing_more}
 use Rattle.at_adsp.proofs.Readers.{reading_begins, reading_grows}
 use Rattle.at_adsp.proofs.Senders.{writes_begins}
 use Rattle.at_adsp.proofs.Sound.{Sound, Stands}
+use Rattle.std.proofs.lemmas.Option.{same_Some}
 
 -- an end keeps to the log of its writer, and reads on in the log of its peer's
 pub record EndFlows (logs : ℕ → List Log) (s : Stream) (e : EndState) : Type 0 where
@@ -106,7 +107,7 @@ all_born P Q p m u (z ∷ zs) bound h is stays now all =
     go : (find p zs ≡ Some m → AllByRecursion Q (replaced p u zs)) → (c : Bool) → cond c (Some z) (find p zs) ≡ Some m
         → AllByRecursion Q (cond c (u ∷ zs) (z ∷ replaced p u zs))
     go ih true f =
-        let e : z.stream.birth ≡ m.stream.birth = ap (λ (x : Made). x.stream.birth) (some_same z m f) in
+        let e : z.stream.birth ≡ m.stream.birth = ap (λ (x : Made). x.stream.birth) (same_Some z m f) in
         (now, below_apart P Q m.stream.birth z.stream.birth zs (omega (arith, e)) h.1 stays all.1)
     go ih false f = (
       stays z (unequal m.stream.birth z.stream.birth (found_below p m zs z.stream.birth h.1 f)) all.0,

@@ -18,7 +18,6 @@ use Rattle.at_adsp.specs.Network.{tick}
 use Rattle.at_adsp.specs.Orders.{whole_numbered}
 use Rattle.at_adsp.proofs.EndMoves.{IsPlainPart}
 use Rattle.at_adsp.proofs.Fews.{count_of}
-use Rattle.at_adsp.proofs.Finds.{some_same}
 use Rattle.at_adsp.proofs.Histories.{history_sound, same_event}
 use Rattle.at_adsp.proofs.Mapped.{mapped}
 use Rattle.at_adsp.proofs.PacedNetworks.{Goes, IsLow, LowHere, PaceOf, PaceOn, Paced, most_of, whose}
@@ -26,6 +25,7 @@ use Rattle.at_adsp.proofs.PacedHistories.{done_pace, opening_pace}
 use Rattle.at_adsp.proofs.Paces.{Marks, marks_of}
 use Rattle.at_adsp.proofs.Slows.{TellsAll}
 use Rattle.at_adsp.proofs.Sound.{Lawful, Sound}
+use Rattle.std.proofs.lemmas.Option.{same_Some}
 
 -- ---- histories
 
@@ -77,7 +77,7 @@ module _ (room : ℕ) (setting : Setting) (n new : Network) (lawful : AllByRecur
   mapped_some : (o : Option Made) (w : ℕ × Address) → mapped whose o ≡ Some w → (m : Made) × (o ≡ Some m)
       × (whose m ≡ w)
   mapped_some None w h = absurd (cc)
-  mapped_some (Some m) w h = (m, refl, some_same (whose m) w h)
+  mapped_some (Some m) w h = (m, refl, same_Some (whose m) w h)
 
   pub was_there : (s : Sent) (m : Made) → s.event < n.event → SenderIs setting.ours new.made s m
       → WasThere room setting.ours n.made s m

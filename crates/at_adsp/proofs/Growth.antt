@@ -8,8 +8,9 @@ use Rattle.at_ddp.specs.declared.address.Address.{Address}
 use Rattle.at_adsp_end.specs.declared.remote.Remote.{Remote}
 use Rattle.at_adsp.specs.Network.{Setting, Made, birth_of, born, has_birth, is_end, named, newest}
 use Rattle.at_ddp.proofs.Alls.{found_passes}
-use Rattle.at_adsp.proofs.Finds.{kept_in, some_same}
+use Rattle.at_adsp.proofs.Finds.{kept_in}
 use Rattle.at_adsp.proofs.Mapped.{mapped}
+use Rattle.std.proofs.lemmas.Option.{same_Some}
 
 -- the same end, later: its remote stays, once it has one, and so does its peer
 pub record Grows (m u : Made) : Type 0 where
@@ -62,7 +63,7 @@ of_found f p q m u (z ∷ zs) same alike is = go (λ h. of_found f p q m u zs sa
     go : (find p zs ≡ Some m → mapped f (find q (replaced p u zs)) ≡ mapped f (find q zs)) → (c : Bool)
         → cond c (Some z) (find p zs) ≡ Some m →
         mapped f (find q (cond c (u ∷ zs) (z ∷ replaced p u zs))) ≡ mapped f (cond (q z) (Some z) (find q zs))
-    go ih true h = here (some_same z m h) (q u) (q z) refl refl
+    go ih true h = here (same_Some z m h) (q u) (q z) refl refl
     go ih false h = rest (q z)
       where
         rest : (b : Bool) → mapped f (cond b (Some z) (find q (replaced p u zs)))
@@ -108,7 +109,7 @@ fall_kept p m u (z ∷ zs) bound same is h = go (λ f. fall_kept p m u zs z.stre
     go : (find p zs ≡ Some m → Fall z.stream.birth (replaced p u zs)) → (c : Bool) → cond c (Some z) (find p zs)
         ≡ Some m → Fall bound (cond c (u ∷ zs) (z ∷ replaced p u zs))
     go ih true f =
-        let e : z.stream.birth ≡ u.stream.birth = ap (λ (x : Made). x.stream.birth) (some_same z m f) ∙ sym same in
+        let e : z.stream.birth ≡ u.stream.birth = ap (λ (x : Made). x.stream.birth) (same_Some z m f) ∙ sym same in
         (subst (λ k. k < bound) e h.0, subst (λ k. Fall k zs) e h.1)
     go ih false f = (h.0, ih f)
 
@@ -120,7 +121,7 @@ found_below q w (z ∷ zs) bound h is = go (λ f. found_below q w zs z.stream.bi
   where
     go : (find q zs ≡ Some w → w.stream.birth < z.stream.birth) → (b : Bool) → cond b (Some z) (find q zs) ≡ Some w
         → w.stream.birth < bound
-    go ih true f = subst (λ (x : Made). x.stream.birth < bound) (some_same z w f) h.0
+    go ih true f = subst (λ (x : Made). x.stream.birth < bound) (same_Some z w f) h.0
     go ih false f = let lt = ih f in let less = h.0 in omega (arith, lt, less)
 
 pub unequal : (a b : ℕ) → a < b → (b == a) ≡ false
@@ -139,7 +140,7 @@ found_born q w (z ∷ zs) bound h is = go (λ f. found_born q w zs z.stream.birt
     go : (find q zs ≡ Some w → born zs w.stream.birth ≡ Some w) → (b : Bool) → cond b (Some z) (find q zs) ≡ Some w
         → cond (z.stream.birth == w.stream.birth) (Some z) (born zs w.stream.birth) ≡ Some w
     go ih true f =
-        let e : z ≡ w = some_same z w f in
+        let e : z ≡ w = same_Some z w f in
         ap (λ c. cond c (Some z) (born zs w.stream.birth))
         (eq-eqb z.stream.birth w.stream.birth (ap (λ (x : Made). x.stream.birth) e)) ∙ ap Some e
     go ih false f = ap (λ c. cond c (Some z) (born zs w.stream.birth))

@@ -18,6 +18,7 @@ use Rattle.at_adsp.proofs.Logs.{Log, went_of}
 use Rattle.at_adsp.proofs.Readers.{Reading, nothing_there, reading_jumps, reading_reads, reading_takes}
 use Rattle.at_adsp.proofs.Senders.{some_before}
 use Rattle.at_adsp.proofs.Slices.{IsSlice, slice_first, slice_rest}
+use Rattle.std.proofs.lemmas.List.{drop_all}
 
 -- what a segment says to an end that stands at this number of its peer's log
 abbrev Means : List Log → ℕ → Saying → Type 0
@@ -26,12 +27,6 @@ Means l r (Resets (Jump d)) = IsCut l (r + d)
 Means l r other = Unit {0}
 
 -- ---- data
-
-drop_all : {X : Type 0} (d : ℕ) (xs : List X) → length xs ≤ d → drop d xs ≡ []
-drop_all zero [] le = refl
-drop_all zero (x ∷ xs) le = absurd (omega (arith, le))
-drop_all (suc d) [] le = refl
-drop_all (suc d) (x ∷ xs) le = drop_all d xs (omega (arith, le))
 
 -- what is not received yet of a segment's items
 rest_slice : (items : List Item) (all : List Item) (first r : ℕ) → IsSlice items all first → IsSlice [] all r

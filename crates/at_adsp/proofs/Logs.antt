@@ -151,10 +151,6 @@ pub length_both : {X : Type 0} (a b : List X) → length (a ++ b) ≡ length a +
 length_both [] b = omega arith
 length_both (x ∷ a) b = let rest = length_both a b in omega (arith, rest)
 
-pub map_both : {X Y : Type 0} (f : X → Y) (xs ys : List X) → map f (xs ++ ys) ≡ map f xs ++ map f ys
-map_both f [] ys = refl
-map_both f (x ∷ xs) ys = ap (λ l. f x ∷ l) (map_both f xs ys)
-
 pub went_both : (l k : List Log) → went_of (l ++ k) ≡ went_of l ++ went_of k
 went_both [] k = refl
 went_both (Went x ∷ l) k = ap (λ w. x ∷ w) (went_both l k)

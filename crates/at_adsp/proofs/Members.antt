@@ -7,8 +7,8 @@ use Rattle.at_ddp.specs.declared.address.Address.{Address}
 use Rattle.at_ddp.proofs.MemberLemmas.{There}
 use Rattle.at_adsp.specs.Network.{Made, born}
 use Rattle.at_adsp.specs.Streams.{Stream, has_number, with_peer}
-use Rattle.at_adsp.proofs.Finds.{some_same}
 use Rattle.at_adsp.proofs.Growth.{Fall, unequal}
+use Rattle.std.proofs.lemmas.Option.{same_Some}
 
 -- ---- what is seen of each entry
 
@@ -19,7 +19,7 @@ found_seen {X} {Y} f p (y ∷ ys) x is = go (λ g. found_seen f p ys x g) (p (f 
   where
     go : (find (λ z. p (f z)) ys ≡ Some x → find p (map f ys) ≡ Some (f x)) → (b : Bool)
         → cond b (Some y) (find (λ z. p (f z)) ys) ≡ Some x → cond b (Some (f y)) (find p (map f ys)) ≡ Some (f x)
-    go ih true g = ap (λ z. Some (f z)) (some_same y x g)
+    go ih true g = ap (λ z. Some (f z)) (same_Some y x g)
     go ih false g = ih g
 
 pub seen_found : {X Y : Type 0} (f : X → Y) (p : Y → Bool) (xs : List X) (y : Y) → find p (map f xs) ≡ Some y → (x : X)
@@ -30,7 +30,7 @@ seen_found {X} {Y} f p (x ∷ xs) y is = go (λ g. seen_found f p xs y g) (p (f 
     go : (find p (map f xs) ≡ Some y → (z : X) × (find (λ w. p (f w)) xs ≡ Some z) × (f z ≡ y)) → (b : Bool)
         → cond b (Some (f x)) (find p (map f xs)) ≡ Some y →
         (z : X) × (cond b (Some x) (find (λ w. p (f w)) xs) ≡ Some z) × (f z ≡ y)
-    go ih true g = (x, refl, some_same (f x) y g)
+    go ih true g = (x, refl, same_Some (f x) y g)
     go ih false g = ih g
 
 -- ---- ends that were made
@@ -67,7 +67,7 @@ before_peer at id peer m x (z ∷ zs) is h = go (λ f g. before_peer at id peer 
         (b : Bool) → cond b (Some z) (find (has_number at id) zs) ≡ Some m
         → There (cond b (record z { peer = peer } ∷ zs) (z ∷ with_peer at id peer zs)) x → There (z ∷ zs) x
         ⊎ (x ≡ record m { peer = peer })
-    go ih true f (inl same) = inr (sym same ∙ ap (λ (y : Stream). record y { peer = peer }) (some_same z m f))
+    go ih true f (inl same) = inr (sym same ∙ ap (λ (y : Stream). record y { peer = peer }) (same_Some z m f))
     go ih true f (inr g) = inl (inr g)
     go ih false f (inl same) = inl (inl same)
     go ih false f (inr g) = rest (ih f g)
@@ -85,7 +85,7 @@ after_peer at id peer m x (z ∷ zs) is h = go (λ f g. after_peer at id peer m 
     go : (find (has_number at id) zs ≡ Some m → There zs x → There (with_peer at id peer zs) x ⊎ (x ≡ m)) →
         (b : Bool) → cond b (Some z) (find (has_number at id) zs) ≡ Some m → There (z ∷ zs) x
         → There (cond b (record z { peer = peer } ∷ zs) (z ∷ with_peer at id peer zs)) x ⊎ (x ≡ m)
-    go ih true f (inl same) = inr (sym same ∙ some_same z m f)
+    go ih true f (inl same) = inr (sym same ∙ same_Some z m f)
     go ih true f (inr g) = inl (inr g)
     go ih false f (inl same) = inl (inl same)
     go ih false f (inr g) = rest (ih f g)
@@ -107,5 +107,5 @@ peer_found at id peer m (z ∷ zs) is = go (λ f. peer_found at id peer m zs f) 
         ≡ Some (record m { peer = peer })
     go ih true e f =
         ap (λ c. cond c (Some (record z { peer = peer })) (find (has_number at id) zs)) e
-        ∙ ap (λ (y : Stream). Some (record y { peer = peer })) (some_same z m f)
+        ∙ ap (λ (y : Stream). Some (record y { peer = peer })) (same_Some z m f)
     go ih false e f = ap (λ c. cond c (Some z) (find (has_number at id) (with_peer at id peer zs))) e ∙ ih f

@@ -9,9 +9,10 @@ use Rattle.at_adsp_end.specs.Ends.{EndState}
 use Rattle.at_adsp_end.specs.Positions.{Numbers}
 use Rattle.at_adsp_ends.specs.Tables.{EndTable, IdsDiffer, has_id, with_changed, with_end, without_end}
 use Rattle.at_adsp.specs.Moving.{AllMoveOn, MovesOn}
-use Rattle.at_adsp.proofs.Distinct.{apart}
-use Rattle.at_adsp.proofs.Finds.{kept_in, some_same}
+use Rattle.at_adsp.proofs.Finds.{kept_in}
 use Rattle.at_adsp.proofs.Moving.{Adds, moves_same}
+use Rattle.at_ddp.proofs.EqualLemmas.{apart}
+use Rattle.std.proofs.lemmas.Option.{same_Some}
 
 -- what has passed one test is the first of its identifier
 first_found : (q : EndState → Bool) (xs : List EndState) (e : EndState) → IdsDiffer xs → find q xs ≡ Some e
@@ -22,7 +23,7 @@ first_found q (x ∷ xs) e differ is = go (λ g. first_found q xs e differ.1 g) 
   where
     go : (find q xs ≡ Some e → find (has_id e.id) xs ≡ Some e) → (b : Bool) → cond b (Some x) (find q xs) ≡ Some e
         → find (has_id e.id) (x ∷ xs) ≡ Some e
-    go ih true g = let same = some_same x e g in
+    go ih true g = let same = same_Some x e g in
         ap (λ (z : EndState). cond (z.id == e.id) (Some x) (find (has_id e.id) xs)) same
         ∙ ap (λ b. cond b (Some x) (find (has_id e.id) xs)) (eq-eqb e.id e.id refl) ∙ g
     go ih false g =
@@ -65,7 +66,7 @@ found_more {X} p (z ∷ zs) x y is = go (λ g. found_more p zs x y g) (p z) is
 
 module _ (N : Numbers) (adds : Adds N) (window : ℕ) (t : EndTable) where
   one_moves : (e f : EndState) → Some e ≡ Some f → MovesOn N window e f
-  one_moves e f same = subst (MovesOn N window e) (some_same e f same) (moves_same N adds window e)
+  one_moves e f same = subst (MovesOn N window e) (same_Some e f same) (moves_same N adds window e)
 
   pub all_same : AllMoveOn N window t t
   all_same id e f old new = one_moves e f (sym old ∙ new)
@@ -82,4 +83,4 @@ module _ (N : Numbers) (adds : Adds N) (window : ℕ) (t : EndTable) where
       let first = ap (λ n. find (has_id n) t.ends) same ∙ first_found q t.ends x differ is in
       let more = kept_in (MovesOn N window) (moves_same N adds window) (has_id y.id) (has_id id) x y t.ends moves
       (ap (λ n. n == id) same) first e old in
-      subst (MovesOn N window e) (some_same more.0 f (sym more.1 ∙ new)) more.2
+      subst (MovesOn N window e) (same_Some more.0 f (sym more.1 ∙ new)) more.2

@@ -17,7 +17,6 @@ use Rattle.at_adsp.specs.Pairs.{number_of}
 use Rattle.at_adsp.specs.Orders.{whole_numbered}
 use Rattle.at_adsp.proofs.EndMoves.{IsPlainPart, open_is}
 use Rattle.at_adsp.proofs.Fews.{count_of}
-use Rattle.at_adsp.proofs.Finds.{some_same}
 use Rattle.at_adsp.proofs.Gone.{SenderIs}
 use Rattle.at_adsp.proofs.Growth.{found_born}
 use Rattle.at_adsp.proofs.StrangeWires.{asked_there}
@@ -28,6 +27,7 @@ use Rattle.at_adsp.proofs.Receptions.{own_remote}
 use Rattle.at_adsp.proofs.Sound.{Fresh, HasPeer, Knows, Lawful, Mutual, Reaches, Sound, Stands, Tells, Told, reached}
 use Rattle.at_adsp.proofs.Steps.{found_passes, found_stands, stands_known}
 use Rattle.at_adsp.proofs.WireSegments.{HearsNear, OpensNear, OpensNearPart}
+use Rattle.std.proofs.lemmas.Option.{same_Some}
 
 -- an end that hears a segment has few more numbers under way than the segment tells
 pub record IsSoon (most : ℕ) (m : Marks) (s : Content) : Type 0 where
@@ -165,7 +165,7 @@ module _ (room : ℕ) (small : room < 2 ^ 16) (setting : Setting) (n : Network)
             let w = sender in
             let x = joined in
             let there = found_born (is_end s.from s.packet.source) w.it n.made n.event sound.births w.newest in
-            some_same w.it x.peer (sym there ∙ ap (born n.made) w.birth ∙ x.there)
+            same_Some w.it x.peer (sym there ∙ ap (born n.made) w.birth ∙ x.there)
 
         same_names : sender.it.names ≡ Some st.it.stream.birth
         same_names = let x = joined in ap (λ (m : Made). m.names) sender_same ∙ x.known

@@ -14,6 +14,7 @@ use Rattle.at_adsp_end.specs.declared.item.Item.{Item}
 use Rattle.at_adsp.specs.Wires.{wired, wired_segment}
 use Rattle.at_adsp.proofs.Fews.{count_of}
 use Rattle.at_adsp.proofs.Rounds.{ahead_back, ahead_on, at_adds, far_back, far_on}
+use Rattle.std.proofs.lemmas.List.{drop_all}
 
 abbrev M : ℕ
 M = 2 ^ 32
@@ -116,13 +117,6 @@ acks_near e next near = go (nat_le e.sender.front next) refl
         (ahead_on M (2 ^ 31) e.sender.front (next - e.sender.front) (lit≤ tt) (omega (arith, on, le))))
     go false is = none_behind (length e.sender.unacknowledged) e.sender.front next
         (leb-false e.sender.front next is) near.back
-
--- nothing is left past the end
-drop_all : {X : Type 0} (d : ℕ) (xs : List X) → length xs ≤ d → drop d xs ≡ []
-drop_all zero [] le = refl
-drop_all zero (x ∷ xs) le = absurd (omega (arith, le))
-drop_all (suc d) [] le = refl
-drop_all (suc d) (x ∷ xs) le = drop_all d xs (omega (arith, le))
 
 -- Of data that begins half of all numbers behind, or further, nothing is left on the cable, and nothing where numbers
 -- may be of any size.

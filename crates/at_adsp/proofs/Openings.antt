@@ -16,10 +16,10 @@ use Rattle.at_adsp.specs.Connections.{streams}
 use Rattle.at_adsp.specs.Network.{Setting, Made, Network, birth_of, does, is_end, named, names_now, newest, noted}
 use Rattle.at_adsp.specs.Streams.{Nothing, with_peer}
 use Rattle.at_adsp.proofs.Changes.{Moves, changed_sound, law, made_is, names_still, own, there}
-use Rattle.at_adsp.proofs.Finds.{some_same}
 use Rattle.at_adsp.proofs.Growth.{found_born}
 use Rattle.at_adsp.proofs.Sayings.{Says}
 use Rattle.at_adsp.proofs.Sound.{HasPeer, Lawful, Mutual, Sound, Stands, Told, connector_opened, reached}
+use Rattle.std.proofs.lemmas.Option.{same_Some}
 
 -- its users see that it has a peer
 pub map_peer : (at : Address) (id : ℕ) (peer : Option ℕ) (m u : Made) (made : List Made) → u.stream
@@ -36,7 +36,7 @@ map_peer at id peer m u (z ∷ zs) same is = go (λ g. map_peer at id peer m u z
         ≡ cond b (record z.stream { peer = peer } ∷ map (λ (x : Made). x.stream) zs)
         (z.stream ∷ with_peer at id peer (map (λ (x : Made). x.stream) zs))
     go ih true g = ap (λ v. v ∷ map (λ (x : Made). x.stream) zs)
-        (same ∙ ap (λ (x : Made). record x.stream { peer = peer }) (sym (some_same z m g)))
+        (same ∙ ap (λ (x : Made). record x.stream { peer = peer }) (sym (same_Some z m g)))
     go ih false g = ap (λ l. z.stream ∷ l) (ih g)
 
 module _ (setting : Setting) (n : Network) (at : Address) (e f : EndState) (sound : Sound setting (n.event + 1) n)

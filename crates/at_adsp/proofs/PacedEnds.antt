@@ -16,7 +16,6 @@ use Rattle.at_adsp.specs.Network.{Setting, Made, Sent, Network, birth_of, does_w
 use Rattle.at_adsp.specs.Streams.{Deed}
 use Rattle.at_adsp.proofs.Changes.{Moves, fresh_same, made_is, newest_now, there}
 use Rattle.at_adsp.proofs.EndMoves.{IsPlainPart}
-use Rattle.at_adsp.proofs.Finds.{some_same}
 use Rattle.at_adsp.proofs.Flows.{all_born}
 use Rattle.at_adsp.proofs.Growth.{births_kept, found_below, of_found, unequal}
 use Rattle.at_adsp.proofs.Paces.{Follows, Keeps, Marks, Rises, TellsFrom, TellsOf, follows_on, marks_of, rises_itself}
@@ -25,6 +24,7 @@ use Rattle.at_adsp.proofs.Slows.{Advances, IsExact, IsSlow}
 use Rattle.at_adsp.proofs.Sound.{Sound, Stands}
 use Rattle.at_adsp.proofs.PacedNetworks.{Paced, TellsHere, Pace, PaceOf, length_sent, Goes, IsLow, most_of, LowHere}
 use Rattle.at_adsp.proofs.PacedNetworks.{whose, Past, PaceOn, stamped_before, none_go, earlier_low}
+use Rattle.std.proofs.lemmas.Option.{same_Some}
 
 -- ---- one end goes on
 
@@ -185,7 +185,7 @@ module _ (room : ℕ) (deed : Deed) (setting : Setting) (n : Network) (at : Addr
             let t = tells.0 in
             let it : Some new ≡ Some m = sym (newest_now deed setting n at e f sound s moves)
             ∙ ap (newest later at) (sym t.source) ∙ is in
-            let new_is : new ≡ m = some_same new m it in
+            let new_is : new ≡ m = same_Some new m it in
             let ours : setting.ours e.asked
             ≡ true = ap setting.ours (sym moves.asked ∙ ap (λ (y : Made). y.last.asked) new_is) ∙ here in
             let marked : marks m.stream.birth ≡ marks_of f = ap (λ (y : Made). marks y.stream.birth) (sym new_is)

@@ -7,9 +7,10 @@ use Rattle.at_adsp_end.specs.Positions.{whole}
 use Rattle.at_adsp_end.specs.Sending.{acknowledged, dropped, going, sent_on}
 use Rattle.at_adsp_end.specs.declared.item.Item.{Item}
 use Rattle.at_adsp.specs.Reading.{Written, Put, Reset}
-use Rattle.at_adsp.proofs.Logs.{Log, Went, Cut, flat, went_of, flat_both, length_both, map_both, nothing_more}
+use Rattle.at_adsp.proofs.Logs.{Log, Went, Cut, flat, went_of, flat_both, length_both, nothing_more}
 use Rattle.at_adsp.proofs.Logs.{went_both}
 use Rattle.at_adsp.proofs.Slices.{IsSlice}
+use Rattle.std.proofs.lemmas.List.{map-append}
 
 -- the log ends with a reset
 pub record EndsWithCut (l : List Log) : Type 0 where
@@ -76,7 +77,7 @@ pub sending_keeps : (w : List Written) (l : List Log) (s : Sender) → Writes w 
     → Writes w (l ++ map Went (going s)) (sent_on s)
 sending_keeps w l s h = record {
   is_written = h.is_written ∙ ap (λ x. flat l ++ map Put x) (sym (all_of_waiting s))
-      ∙ ap (λ x. flat l ++ x) (map_both Put (going s) (drop (length (going s)) s.waiting))
+      ∙ ap (λ x. flat l ++ x) (map-append Put (going s) (drop (length (going s)) s.waiting))
       ∙ sym (append_assoc (flat l) (map Put (going s)) (map Put (drop (length (going s)) s.waiting)))
       ∙ ap (λ x. x ++ map Put (drop (length (going s)) s.waiting))
       (ap (λ x. flat l ++ x) (sym (flat_puts (going s))) ∙ sym (flat_both l (map Went (going s))));
@@ -146,7 +147,7 @@ pub writing_keeps : (w : List Written) (l : List Log) (s : Sender) (xs : List It
     → Writes (w ++ map Put xs) l (record s { waiting = s.waiting ++ xs })
 writing_keeps w l s xs h = record {
   is_written = ap (λ x. x ++ map Put xs) h.is_written ∙ append_assoc (flat l) (map Put s.waiting) (map Put xs)
-      ∙ ap (λ x. flat l ++ x) (sym (map_both Put s.waiting xs));
+      ∙ ap (λ x. flat l ++ x) (sym (map-append Put s.waiting xs));
   gone = h.gone;
   is_numbered = h.is_numbered;
   at_front = h.at_front;

@@ -5,7 +5,8 @@ use Rattle.std.specs.Prelude.{◌==◌}
 use Rattle.at_adsp_end.specs.Cuts.{Piece, open_piece, pieces, items_of}
 use Rattle.at_adsp_end.specs.declared.item.Item.{Item}
 use Rattle.at_adsp_end.specs.declared.item.Item.TheVariants.{Byte, End}
-use Rattle.at_adsp.proofs.Logs.{length_both, map_both, nothing_more}
+use Rattle.at_adsp.proofs.Logs.{length_both, nothing_more}
+use Rattle.std.proofs.lemmas.List.{map-append}
 
 abbrev pub all_items : List Piece → List Item
 all_items [] = []
@@ -36,7 +37,7 @@ pieces_whole got (Byte b ∷ xs) = go (pieces_whole (b ∷ []) xs) (pieces_whole
         ≡ map Byte got ++ (Byte b ∷ xs)
     go one more true = ap (λ l. l ++ all_items (pieces (b ∷ []) xs)) (nothing_more (map Byte got))
         ∙ ap (λ l. map Byte got ++ l) one
-    go one more false = more ∙ ap (λ l. l ++ xs) (map_both Byte got (b ∷ []))
+    go one more false = more ∙ ap (λ l. l ++ xs) (map-append Byte got (b ∷ []))
         ∙ append_assoc (map Byte got) (Byte b ∷ []) xs
 
 -- what goes on after a slice

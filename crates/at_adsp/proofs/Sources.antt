@@ -23,13 +23,13 @@ use Rattle.at_adsp.specs.Orders.{ReadsInOrder}
 use Rattle.at_adsp.specs.Pairs.{HappensHere, IsPaired}
 use Rattle.at_adsp.specs.Reading.{ReadsFrom}
 use Rattle.at_adsp.specs.Streams.{Deed, Read, Stream, has_number, read_after, with_deed, written_after}
-use Rattle.at_adsp.proofs.Finds.{some_same}
 use Rattle.at_adsp.proofs.Growth.{found_born}
 use Rattle.at_adsp.proofs.Histories.{are_paired, history_sound}
 use Rattle.at_adsp.proofs.Meets.{paired_newest, stream_of}
 use Rattle.at_adsp.proofs.Members.{found_seen, seen_found}
 use Rattle.at_adsp.proofs.OurHistories.{asked_ours}
 use Rattle.at_adsp.proofs.Sound.{Sound}
+use Rattle.std.proofs.lemmas.Option.{same_Some}
 
 -- ---- one end did something
 
@@ -47,7 +47,7 @@ deed_found at id deed m (z ∷ zs) is = go (λ f. deed_found at id deed m zs f) 
         (b : Bool) → has_number at id z ≡ b → cond b (Some z) (find (has_number at id) zs) ≡ Some m
         → find (has_number at id) (cond b (deeded deed z ∷ zs) (z ∷ with_deed at id deed zs)) ≡ Some (deeded deed m)
     go ih true e f = ap (λ c. cond c (Some (deeded deed z)) (find (has_number at id) zs)) e
-        ∙ ap (λ y. Some (deeded deed y)) (some_same z m f)
+        ∙ ap (λ y. Some (deeded deed y)) (same_Some z m f)
     go ih false e f = ap (λ c. cond c (Some z) (find (has_number at id) (with_deed at id deed zs))) e ∙ ih f
 
 abbrev has_been : ℕ → Stream → Bool
@@ -71,13 +71,13 @@ written_still at id items birth x (z ∷ zs) is = go (λ f. written_still at id 
       deeded (Read items) z,
       ap (λ c. cond c (Some (deeded (Read items) z)) (find (has_been birth) zs)) e,
       ap
-          (λ (y : Stream). y.written) (some_same z x f),
+          (λ (y : Stream). y.written) (same_Some z x f),
     )
     go ih true false e f = (x, ap (λ c. cond c (Some (deeded (Read items) z)) (find (has_been birth) zs)) e ∙ f, refl)
     go ih false true e f = (
       z,
       ap (λ c. cond c (Some z) (find (has_been birth) (with_deed at id (Read items) zs))) e,
-      ap (λ (y : Stream). y.written) (some_same z x f),
+      ap (λ (y : Stream). y.written) (same_Some z x f),
     )
     go ih false false e f =
         let more = ih f in
@@ -161,7 +161,7 @@ module _ (setting : Setting) (history : List Happening) (at : Address) (id count
       let r = in_order.reads reader.0.stream.birth reader.0 peer.stream.birth
       (found_born (is_end at id) reader.0 m.made m.event now.births reader.1)
       (ap (λ (x : Stream). x.peer) reader.2 ∙ pair.2.connected.peer) in
-      let one : r.0 ≡ writer_made.0 = some_same r.0 writer_made.0 (sym r.1 ∙ writer_made.1) in
+      let one : r.0 ≡ writer_made.0 = same_Some r.0 writer_made.0 (sym r.1 ∙ writer_made.1) in
       subst (λ l. ReadsFrom l peer.stream.written) (ap (λ (x : Stream). x.read) reader.2)
       (subst (λ w. ReadsFrom reader.0.stream.read w)
       (ap (λ (x : Made). x.stream.written) one ∙ ap (λ (x : Stream). x.written) writer_made.2 ∙ writer.2) r.2)

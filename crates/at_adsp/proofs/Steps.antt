@@ -21,10 +21,11 @@ use Rattle.at_adsp.specs.Streams.{Stream, Deed, Nothing, has_number, read_after,
 use Rattle.at_adsp.proofs.Changes.{Moves, changed_sound, grows, law, made_is, names_still, there}
 use Rattle.at_adsp.proofs.Distinct.{IdsApart, differ_without}
 use Rattle.at_adsp.proofs.EndMoves.{Quiet, quiet_known, quiet_opened}
-use Rattle.at_adsp.proofs.Finds.{found_too, some_same}
 use Rattle.at_adsp.proofs.Growth.{fall_more, itself}
 use Rattle.at_adsp.proofs.Sayings.{Says, said_fresh}
 use Rattle.at_adsp.proofs.Sound.{Fresh, HasPeer, IsKnown, Lawful, Sound, Stands, mutual_kept}
+use Rattle.at_ddp.proofs.TableLemmas.{found_too}
+use Rattle.std.proofs.lemmas.Option.{same_Some}
 
 pub later : (setting : Setting) (n : Network) → Sound setting n.event n → Sound setting (n.event + 1) n
 later setting n s = record {
@@ -85,7 +86,7 @@ map_deed at id deed m u (z ∷ zs) same is = go (λ g. map_deed at id deed m u z
     go ih true g = ap (λ v. v ∷ map (λ (x : Made). x.stream) zs)
         (same ∙ ap (λ (x : Made). record
         x.stream { written = written_after deed x.stream.written; read = read_after deed x.stream.read })
-        (sym (some_same z m g)))
+        (sym (same_Some z m g)))
     go ih false g = ap (λ l. z.stream ∷ l) (ih g)
 
 -- ---- an end that moves quietly

@@ -24,13 +24,13 @@ use Rattle.at_adsp_ends.specs.Tables.{Done, EndTable, by_id, by_remote, moved, s
 use Rattle.at_adsp.specs.Wires.{wired, wired_outcome, wired_segment}
 use Rattle.at_adsp.proofs.EndMoves.{IsPlainPart}
 use Rattle.at_adsp.proofs.Lifts.{CanLift, Lifted, acks_few, acks_for, lifted, next_for}
-use Rattle.at_adsp.proofs.Logs.{map_both}
 use Rattle.at_adsp.proofs.Mapped.{mapped}
 use Rattle.at_adsp.proofs.WireCalls.{id_wired, moved_wired, remote_wired, settled_wired, stayed_wired, wired_done}
 use Rattle.at_adsp.proofs.WireCalls.{wired_table}
 use Rattle.at_adsp.proofs.WireSegments.{any_wired, denial_wired, none_wired}
 use Rattle.at_adsp.proofs.Wires.{control_wired, heard_wired, hearing_wired, wired_change}
 use Rattle.at_adsp.proofs.LiftedSegments.{Alike, alike_same, never_makes, LiftedAt}
+use Rattle.std.proofs.lemmas.List.{map-append}
 
 module _ (t : EndTable) (from : Address) (s : Content)
     (can : (e : EndState) → by_remote t (record { address = from; id = s.source }) ≡ Some e → is_open e.phase ≡ true
@@ -68,7 +68,7 @@ module _ (t : EndTable) (from : Address) (s : Content)
       ∙ ap (λ o. wired_change (hearing whole f s.window o))
       (sym (acks_for f.sender (acks wire (wired f).sender s.next) (acks_few (wired f).sender s.next))) in
       (λ i. moved T (step.Opened f.id) (same i).after (map wired_segment first ++ (same i).sent))
-      ∙ (λ i. moved T (step.Opened f.id) (wired d.after) (sym (map_both wired_segment first d.sent) i))
+      ∙ (λ i. moved T (step.Opened f.id) (wired d.after) (sym (map-append wired_segment first d.sent) i))
       ∙ moved_wired t (step.Opened f.id) d.after (first ++ d.sent)
 
   ack_lifts : (o : Option EndState) → ByNext (ack_came wire T r s (mapped wired o)) (λ x. ack_came whole t r x o)

@@ -23,7 +23,6 @@ use Rattle.at_adsp.specs.Orders.{whole_numbered}
 use Rattle.at_adsp.specs.Streams.{Nothing}
 use Rattle.at_adsp.specs.Wires.{wired_segment}
 use Rattle.at_adsp.proofs.EndMoves.{open_is}
-use Rattle.at_adsp.proofs.Finds.{some_same}
 use Rattle.at_adsp.proofs.Flows.{FlowOf, Flows}
 use Rattle.at_adsp.proofs.Lifts.{CanLift}
 use Rattle.at_adsp.proofs.Mapped.{mapped}
@@ -37,6 +36,7 @@ use Rattle.at_adsp.proofs.WireHistories.{names_none, timely_whole}
 use Rattle.at_adsp.proofs.WireNetworks.{ComesNear, does_wired, done_wired, packet_wired, wired_made, wired_network}
 use Rattle.at_adsp.proofs.WireNetworks.{wired_sent}
 use Rattle.at_adsp.proofs.WireSegments.{HearsNear}
+use Rattle.std.proofs.lemmas.Option.{same_Some}
 
 -- whom an open end asked that hears what comes from there
 pub asked_there : (setting : Setting) (events : ℕ) (n : Network) (at from : Address) (source : ℕ) (e : EndState)
@@ -131,7 +131,7 @@ module _ (setting : Setting) (n : Network) (sound : Sound (whole_numbered settin
       from_there : (s : Sent) → packet_at n.sent which ≡ Some s → (b : Bool) → setting.ours s.from ≡ b
           → LiftedTo (Takes which)
       from_there s is true ours = as_it_is
-          (λ x there. let same : s ≡ x = some_same s x (sym is ∙ there) in
+          (λ x there. let same : s ≡ x = same_Some s x (sym is ∙ there) in
           ap (λ (y : Sent). setting.ours y.from) (sym same) ∙ ours)
       from_there s is false strange =
           let l = lifts_at s.to s.from (wired_segment s.packet) in

@@ -27,10 +27,10 @@ use Rattle.at_adsp_ends.specs.Receiving.{settled}
 use Rattle.at_adsp_ends.specs.Tables.{Done, EndTable, by_id, by_remote, following, free_id, freed, has_id, made, moved}
 use Rattle.at_adsp_ends.specs.Tables.{next_id, stayed}
 use Rattle.at_adsp.specs.Wires.{wired, wired_outcome, wired_segment}
-use Rattle.at_adsp.proofs.Logs.{map_both}
 use Rattle.at_adsp.proofs.Mapped.{any_mapped, find_mapped, length_mapped, mapped, replaced_mapped, without_mapped}
 use Rattle.at_adsp.proofs.Rounds.{at_adds}
 use Rattle.at_adsp.proofs.Wires.{control_wired, repeated_wired, sends_on_wired, shut_wired, wired_change}
+use Rattle.std.proofs.lemmas.List.{map-append}
 
 abbrev M : ℕ
 M = 2 ^ 32
@@ -87,7 +87,7 @@ module _ {X : Type 0} (t : EndTable) (answer : X) (e : EndState) (out : List Con
       listening = t.listening;
       next = following e.id;
       rooms = t.rooms;
-      ends = sym (map_both wired t.ends (e ∷ [])) i;
+      ends = sym (map-append wired t.ends (e ∷ [])) i;
     };
     changed = Some (wired e);
     sent = addressed_wired e.asked out i;

@@ -13,11 +13,11 @@ use Rattle.at_adsp.specs.Network.{IsTimely, MakesInTime, NoneNames, born, dest_o
 use Rattle.at_adsp.specs.Orders.{ReadsInOrder, whole_numbered}
 use Rattle.at_adsp.specs.Reading.{ReadsFrom}
 use Rattle.at_adsp.specs.Wires.{wired, wired_segment}
-use Rattle.at_adsp.proofs.Finds.{some_same}
 use Rattle.at_adsp.proofs.Mapped.{each_mapped, mapped}
 use Rattle.at_adsp.proofs.WireCalls.{next_wired, remote_wired}
 use Rattle.at_adsp.proofs.WireNetworks.{ComesNear, born_wired, packet_wired, wired_made, wired_network, wired_sent}
 use Rattle.at_adsp.proofs.WireSegments.{HearsNear, received_wired}
+use Rattle.std.proofs.lemmas.Option.{same_Some}
 
 -- ---- histories in which no segment outlives its identifiers
 
@@ -39,7 +39,7 @@ none_mapped f (Some x) h = absurd (cc)
 pub some_mapped : {X Y : Type 0} (f : X → Y) (o : Option X) (y : Y) → mapped f o ≡ Some y → (x : X)
     × ((o ≡ Some x) × (f x ≡ y))
 some_mapped f None y h = absurd (cc)
-some_mapped f (Some x) y h = (x, (refl, some_same (f x) y h))
+some_mapped f (Some x) y h = (x, (refl, same_Some (f x) y h))
 
 pub names_none : (n : Network) (at : Address) (id : ℕ) → NoneNames (wired_network n) at id → NoneNames n at id
 names_none n at id h there =

@@ -23,11 +23,11 @@ use Rattle.at_adsp.specs.Network.{wrote_first}
 use Rattle.at_adsp.specs.Orders.{whole_numbered}
 use Rattle.at_adsp.specs.Streams.{Deed, Nothing, Read, read_after, written_after}
 use Rattle.at_adsp.specs.Wires.{wired, wired_segment}
-use Rattle.at_adsp.proofs.Logs.{map_both}
 use Rattle.at_adsp.proofs.Mapped.{find_mapped, get_mapped, mapped, replaced_mapped}
 use Rattle.at_adsp.proofs.WireCalls.{closed_wired, connected_wired, id_wired, next_wired, reads_wired, resets_wired}
 use Rattle.at_adsp.proofs.WireCalls.{ticks_wired, wired_done, wired_result, wired_table, wired_to, wrote_wired}
 use Rattle.at_adsp.proofs.WireSegments.{HearsNear, received_wired}
+use Rattle.std.proofs.lemmas.List.{map-append}
 
 -- ---- a network as the cable has it
 
@@ -147,7 +147,7 @@ module _ (setting : Setting) where
     tables = λ a. put_wired n.tables at d.after a i;
     made = end_wired deed n.event n.made at (n.tables at) d.changed i;
     sent = (ap (λ l. map (mapped wired_sent) n.sent ++ l) (stamped_wired n.event at d.sent)
-        ∙ sym (map_both (mapped wired_sent) n.sent (stamped n.event at d.sent))) i;
+        ∙ sym (map-append (mapped wired_sent) n.sent (stamped n.event at d.sent))) i;
   }
 
   calls_wired : {X : Type 0} (deed : X → Deed) (n : Network) (at : Address) (r : Result (Done X) StreamFault)
@@ -222,5 +222,5 @@ module _ (setting : Setting) where
     tables = λ a. wired_table (n.tables a);
     made = map wired_made n.made;
     sent = (ap (λ l. map (mapped wired_sent) n.sent ++ l) (sym (none_wired count))
-        ∙ sym (map_both (mapped wired_sent) n.sent (replicate count None))) i;
+        ∙ sym (map-append (mapped wired_sent) n.sent (replicate count None))) i;
   }

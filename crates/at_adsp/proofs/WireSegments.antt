@@ -25,12 +25,12 @@ use Rattle.at_adsp_ends.specs.Receiving.{any_request_came, opening_came, part_ca
 use Rattle.at_adsp_ends.specs.Tables.{Done, EndTable, by_id, by_remote, freed, moved, next_id, stayed, made}
 use Rattle.at_adsp.specs.Wires.{wired, wired_segment}
 use Rattle.at_adsp.proofs.EndMoves.{IsPlainPart, half_is, opening_is}
-use Rattle.at_adsp.proofs.Logs.{map_both}
 use Rattle.at_adsp.proofs.Mapped.{mapped}
 use Rattle.at_adsp.proofs.Nears.{IsNear, NearAcks, acks_near, told_near}
 use Rattle.at_adsp.proofs.WireCalls.{freed_wired, id_wired, made_wired, moved_wired, next_wired, remote_wired}
 use Rattle.at_adsp.proofs.WireCalls.{settled_wired, stayed_wired, wired_done, wired_table}
 use Rattle.at_adsp.proofs.Wires.{control_wired, heard_wired, hearing_wired, wired_change}
+use Rattle.std.proofs.lemmas.List.{map-append}
 
 -- an end that opens is near what opens it, which comes from the address that it asked
 abbrev pub OpensNear : EndTable → Address → Content → ℕ → Type 0
@@ -111,7 +111,7 @@ module _ (t : EndTable) (from : Address) (s : Content) where
       ap (λ o. hearing wire (wired f) s.window o) (acks_near f s.next near)
       ∙ hearing_wired f s.window (acks whole f.sender s.next) in
       (λ i. moved T (step.Opened f.id) (same i).after (map wired_segment first ++ (same i).sent))
-      ∙ (λ i. moved T (step.Opened f.id) (wired d.after) (sym (map_both wired_segment first d.sent) i))
+      ∙ (λ i. moved T (step.Opened f.id) (wired d.after) (sym (map-append wired_segment first d.sent) i))
       ∙ moved_wired t (step.Opened f.id) d.after (first ++ d.sent)
 
   ack_wired : (o : Option EndState)

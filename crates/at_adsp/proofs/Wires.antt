@@ -13,8 +13,8 @@ use Rattle.at_adsp_end.specs.Positions.{whole, wire}
 use Rattle.at_adsp_end.specs.Sending.{acknowledged, going, hearing, repeated, sending, shut}
 use Rattle.at_adsp_end.specs.declared.item.Item.{Item}
 use Rattle.at_adsp.specs.Wires.{wired, wired_outcome, wired_segment}
-use Rattle.at_adsp.proofs.Logs.{map_both}
 use Rattle.at_adsp.proofs.Rounds.{at_adds}
+use Rattle.std.proofs.lemmas.List.{map-append}
 
 abbrev M : ℕ
 M = 2 ^ 32
@@ -86,7 +86,7 @@ shut_wired e = λ i. record
 
 -- more is sent
 and_more : (a x y : List Content) → x ≡ map wired_segment y → map wired_segment a ++ x ≡ map wired_segment (a ++ y)
-and_more a x y h = ap (λ l. map wired_segment a ++ l) h ∙ sym (map_both wired_segment a y)
+and_more a x y h = ap (λ l. map wired_segment a ++ l) h ∙ sym (map-append wired_segment a y)
 
 asked_wired : (b : Bool) (e : EndState) → if_asked wire b (wired e) ≡ map wired_segment (if_asked whole b e)
 asked_wired true e = λ i. control_wired e false Probe i ∷ []

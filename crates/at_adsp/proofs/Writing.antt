@@ -18,6 +18,7 @@ use Rattle.at_adsp.proofs.Carries.{Carries, Goes, Writer, acks_within, answered,
 use Rattle.at_adsp.proofs.Carries.{reset_carries, sending_goes, shuts, so_goes, stays, then_goes, writer_of}
 use Rattle.at_adsp.proofs.Logs.{Log}
 use Rattle.at_adsp.proofs.Senders.{Writes, writing_keeps}
+use Rattle.at_ddp.proofs.ListLemmas.{take_same}
 
 asked_carries : (e : EndState) (l : List Log) (b : Bool) → AllByRecursion (Carries e.id l) (if_asked whole b e)
 asked_carries e l true = ((refl, tt), tt)
@@ -96,11 +97,6 @@ pub closing_goes : (w : List Written) (l : List Log) (e : EndState) → Writer w
     → Goes w l (closing whole e).after (closing whole e).sent
 closing_goes w l e h = stays w l (closing whole e).after (closing whole e).sent (shuts w l e.phase e.sender e h)
     ((refl, tt), tt)
-
-take_same : {X : Type 0} (k : ℕ) (xs : List X) → take (length (take k xs)) xs ≡ take k xs
-take_same zero xs = refl
-take_same (suc k) [] = refl
-take_same (suc k) (x ∷ xs) = ap (λ l. x ∷ l) (take_same k xs)
 
 pub writing_goes : (w : List Written) (l : List Log) (e : EndState) (items : List Item) → Writes w l e.sender →
     Goes (w ++ map Put (take (length (take (places e) items)) items)) l (writing whole e items).after

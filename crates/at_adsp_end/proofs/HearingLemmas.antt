@@ -20,7 +20,8 @@ use Rattle.at_adsp_end.specs.declared.load.Load.{Load}
 use Rattle.at_adsp_end.specs.declared.phase.Phase.{Phase}
 use Rattle.at_adsp_end.specs.declared.remote.Remote.{Remote}
 use Rattle.at_adsp_end.proofs.CutLemmas.{numbered_at}
-use Rattle.at_adsp_end.proofs.QueueLemmas.{first_of, going_first}
+use Rattle.at_adsp_end.proofs.QueueLemmas.{going_first}
+use Rattle.at_ddp.proofs.ListLemmas.{take_same}
 
 -- ---- the waiting items that go
 
@@ -95,7 +96,7 @@ going_unreset e window (Some k) is = unreset (acknowledged wire k window e.sende
 
 pub unreset_stretch : (s : Sender) (credit : ℕ) → stretch s (length s.unacknowledged) (length (take credit s.waiting))
     ≡ take credit s.waiting
-unreset_stretch s credit = waiting_stretch s (length (take credit s.waiting)) ∙ first_of credit s.waiting
+unreset_stretch s credit = waiting_stretch s (length (take credit s.waiting)) ∙ take_same credit s.waiting
 
 -- ---- loads
 

@@ -6,6 +6,7 @@ use Rattle.std.proofs.lemmas.List.{drop-drop, drop-take, length-drop, length-tak
 use Rattle.at_adsp_end.specs.Ends.{Sender}
 use Rattle.at_adsp_end.specs.Sending.{going, sent_on}
 use Rattle.at_adsp_end.specs.declared.item.Item.{Item}
+use Rattle.at_ddp.proofs.ListLemmas.{take_same}
 
 -- after the first k are acknowledged
 pub left_last : {X : Type 0} (k : ℕ) (q : List X) → k ≤ length q → drop (length q - (length q - k)) q ≡ drop k q
@@ -26,17 +27,13 @@ back_waiting s n q fits =
     ap (λ m. drop s (take m q)) e ∙ drop-take s (length q - s - n) q
     ∙ ap (λ m. take (m - n) (drop s q)) (sym (length-drop s q))
 
--- after all that may go is sent
-pub first_of : {X : Type 0} (n : ℕ) (q : List X) → take (length (take n q)) q ≡ take n q
-first_of n q = ap (λ m. take m q) (length-take n q) ∙ take_min n q
-
 pub going_first : (s : Sender) → take (length (going s)) s.waiting ≡ going s
 going_first s = go s.resetting
   where
     go : (b : Bool) → take (length (cond b [] (take s.credit s.waiting))) s.waiting
         ≡ cond b [] (take s.credit s.waiting)
     go true = refl
-    go false = first_of s.credit s.waiting
+    go false = take_same s.credit s.waiting
 
 abbrev pub sender_over : ℕ → ℕ → ℕ → List Item → Bool → Sender
 sender_over front s credit q resetting =

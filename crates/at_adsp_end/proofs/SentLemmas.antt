@@ -6,7 +6,7 @@ use Rattle.std.proofs.lemmas.List.{map-append}
 use Rattle.at_ddp.specs.Outbox.{Outbox}
 use Rattle.at_ddp.specs.Sending.{Sends, finished}
 use Rattle.at_ddp.specs.declared.address.Address.{Address}
-use Rattle.at_ddp.proofs.OutboxLemmas.{sends_later}
+use Rattle.at_ddp.proofs.OutboxLemmas.{sends_later, sends_both}
 use Rattle.at_adsp_frame.specs.Segments.{Content, spelled}
 use Rattle.at_adsp_end.specs.Cuts.{cut_now, pieces, numbered}
 use Rattle.at_adsp_end.specs.Ends.{EndState, SendsTo, addressed, spelled_all}
@@ -18,16 +18,6 @@ use Rattle.at_adsp_end.proofs.CutLemmas.{cut_split}
 use Rattle.at_adsp_end.proofs.LoadLemmas.{room_less}
 
 -- ---- two lists of packets
-
-pub sends_both : (a b c : Outbox) (xs ys : List (Address × List ℕ)) → Sends a b xs → Sends b c ys → Sends a c (xs ++ ys)
-sends_both a b c xs ys s t = record {
-  items =
-      t.items ∙ (λ i. s.items i ++ map (finished (s.from i) (s.kind i)) ys)
-      ∙ append_assoc a.items (map (finished a.from a.kind) xs) (map (finished a.from a.kind) ys)
-      ∙ ap (λ l. a.items ++ l) (sym (map-append (finished a.from a.kind) xs ys));
-  from = t.from ∙ s.from;
-  kind = t.kind ∙ s.kind;
-}
 
 spelled_both : (to : Address) (xs ys : List Content) → spelled_all (addressed to (xs ++ ys))
     ≡ spelled_all (addressed to xs) ++ spelled_all (addressed to ys)

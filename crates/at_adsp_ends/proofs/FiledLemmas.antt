@@ -1,7 +1,7 @@
 -- The ends stay filed, as one of them is made, changes, gets its remote, or goes.
 use Rattle.std.proofs.Common.{◌≡◌, ℕ, zero, suc, ◌+◌, ◌≤◌, Bool, true, false, cond, nat_eq, List, [], ◌∷◌, ◌++◌}
 use Rattle.std.proofs.Common.{map, set, slice_get, Option, Some, None, refl, sym, ap, subst, ◌∙◌, arith}
-use Rattle.std.specs.Prelude.{◌&&◌, ◌==◌, count_by, find, is_none, option_map, remove}
+use Rattle.std.specs.Prelude.{◌==◌, count_by, find, is_none, option_map, remove}
 use Rattle.std.specs.List.{AllByRecursion, IsDistinct, list_any, position_from}
 use Rattle.std.proofs.lemmas.Bool.{eq-eqb, or_parts, true≢false}
 use Rattle.std.proofs.lemmas.List.Sums.{sum_by-append, sum_by-remove, sum_by-set}
@@ -18,16 +18,13 @@ use Rattle.at_adsp_ends.proofs.DistinctLemmas.{all_set}
 use Rattle.at_adsp_ends.proofs.FindLemmas.{find_alike, find_missed, find_only, find_pushed, find_removed, no_place}
 use Rattle.at_adsp_ends.proofs.FindLemmas.{none_found}
 use Rattle.at_adsp_ends.proofs.TableLaws.{remote_turned}
+use Rattle.at_ddp.proofs.CaseLemmas.{regrouped}
 
 -- ---- remotes
 
 pub remote_is : (a b : Remote) → same_remote a b ≡ true → a ≡ b
 remote_is a b h = let both = same_both a.address b.address a.id b.id h in
     λ j. record { address = both.0 j; id = both.1 j }
-
-regrouped : (a b c d : Bool) → ((a && (b && c)) && d) ≡ (((a && b) && c) && d)
-regrouped true b c d = refl
-regrouped false b c d = refl
 
 -- keys of the index are equal as their remotes are
 pub same_as : (a b : Remote) → same_key (a.address, a.id) (b.address, b.id) ≡ same_remote b a

@@ -1,11 +1,10 @@
 -- What a search finds in a list of which one entry changes.
 use Rattle.std.proofs.Common.{◌≡◌, ℕ, zero, suc, ◌+◌, Bool, true, false, cond, List, [], ◌∷◌, ◌++◌, set, slice_get}
-use Rattle.std.proofs.Common.{drop, Some, None, is_some, refl, ap, ◌∙◌}
+use Rattle.std.proofs.Common.{Some, None, is_some, refl, ap, ◌∙◌}
 use Rattle.std.specs.Prelude.{◌||◌, find, option_map, remove}
 use Rattle.std.specs.List.{AllByRecursion, list_any, position_from}
-use Rattle.std.proofs.lemmas.List.{drop_more}
 use Rattle.std.proofs.lemmas.List.Folds.{find_past}
-use Rattle.std.proofs.lemmas.Option.{get_or_from_slice_get, slice_get_within}
+use Rattle.std.proofs.lemmas.Option.{get_or_from_slice_get}
 
 module _ {X : Type 0} (p : X → Bool) where
   pub no_place : (n : ℕ) (xs : List X) → find p xs ≡ None → position_from p n xs ≡ None
@@ -76,8 +75,3 @@ module _ {X : Type 0} (p : X → Bool) where
   none_found (x ∷ xs) h = rw h.0 (none_found xs h.1)
 
 -- ---- walks over the places of a list
-
-pub drop_next : {X : Type 0} (xs : List X) (i : ℕ) (x : X) → slice_get xs i ≡ Some x
-    → drop i xs ≡ x ∷ drop (i + 1) xs
-drop_next xs i x at = drop_more xs i x (slice_get_within xs i x at)
-    ∙ ap (λ z. z ∷ drop (i + 1) xs) (get_or_from_slice_get xs i x x at)

@@ -16,6 +16,7 @@ use Rattle.at_atp.specs.Network.{Retries, hears, takes_in, expires, retries, don
 use Rattle.at_atp_frame.specs.declared.fault.AtpFault.{AtpFault}
 use Rattle.at_atp_requester.specs.Requests.{Retried, retried}
 use Rattle.at_atp_responder.specs.Records.{is_key, expiry_fault}
+use Rattle.std.proofs.lemmas.Option.{same_Some}
 
 -- the same transaction, perhaps with more answers
 pub record Extends (old new : Transaction) : Type 0 where
@@ -38,9 +39,6 @@ Keeps old new who tid = (t : Transaction) → transaction_of old who tid ≡ Som
 pub begun_keeps : (ts : List Transaction) (t : Transaction) (who : Address) (tid : ℕ) → is_transaction who tid t
     ≡ false → Keeps ts (t ∷ ts) who tid
 begun_keeps ts t who tid apart = λ u is. (u, rw apart is, itself u)
-
-pub some_same : (t u : Transaction) → Some t ≡ Some u → t ≡ u
-some_same t u h = cc
 
 -- an answer joins
 abbrev pub joined : Transaction → List Packet → Transaction
@@ -69,7 +67,7 @@ answered_keeps (t ∷ ts) from tid packets who k =
     go : Keeps ts (answered ts from tid packets) who k → (a b : Bool) → is_transaction who k t ≡ b
         → Keeps (t ∷ ts) (cond a (joined t packets ∷ ts) (t ∷ answered ts from tid packets)) who k
     go ih true true e = λ u is.
-        let same : t ≡ u = some_same t u (sym (ap (λ b. cond b (Some t) (transaction_of ts who k)) e) ∙ is) in (
+        let same : t ≡ u = same_Some t u (sym (ap (λ b. cond b (Some t) (transaction_of ts who k)) e) ∙ is) in (
           joined t packets,
           ap (λ b. cond b (Some (joined t packets)) (transaction_of ts who k)) e,
           subst
@@ -82,7 +80,7 @@ answered_keeps (t ∷ ts) from tid packets who k =
       itself u,
     )
     go ih false true e = λ u is.
-        let same : t ≡ u = some_same t u (sym (ap (λ b. cond b (Some t) (transaction_of ts who k)) e) ∙ is) in (
+        let same : t ≡ u = same_Some t u (sym (ap (λ b. cond b (Some t) (transaction_of ts who k)) e) ∙ is) in (
           t,
           ap (λ b. cond b (Some t) (transaction_of (answered ts from tid packets) who k)) e,
           subst
@@ -108,7 +106,7 @@ answered_joins (x ∷ ts) from tid packets t is =
         (u : Transaction) × (transaction_of (cond a (joined x packets ∷ ts) (x ∷ answered ts from tid packets)) from
         tid ≡ Some u) × Extends t u × Contains u.answers packets
     go ih true e h =
-        let same : x ≡ t = some_same x t h in (
+        let same : x ≡ t = same_Some x t h in (
           joined x packets,
           ap (λ b. cond b (Some (joined x packets)) (transaction_of ts from tid)) e,
           subst
@@ -139,7 +137,7 @@ joined_exactly (x ∷ ts) who tid packets t is =
         transaction_of (cond b (joined x packets ∷ ts) (x ∷ answered ts who tid packets)) who tid
         ≡ Some (joined t packets)
     go ih true e h = ap (λ b. cond b (Some (joined x packets)) (transaction_of ts who tid)) e
-        ∙ ap (λ y. Some (joined y packets)) (some_same x t h)
+        ∙ ap (λ y. Some (joined y packets)) (same_Some x t h)
     go ih false e h = ap (λ b. cond b (Some x) (transaction_of (answered ts who tid packets) who tid)) e ∙ ih h
 
 pub others_unanswered : (ts : List Transaction) (from : Address) (tid : ℕ) (packets : List Packet) (who : Address)
@@ -183,7 +181,7 @@ part_kept t u place ends p extends part =
 -- there is only one newest transaction
 pub one_newest : (ts : List Transaction) (who : Address) (tid : ℕ) (a b : Address) (x : Asked ts who tid a)
     (y : Asked ts who tid b) → x.transaction ≡ y.transaction
-one_newest ts who tid a b x y = some_same x.transaction y.transaction (sym x.newest ∙ y.newest)
+one_newest ts who tid a b x y = same_Some x.transaction y.transaction (sym x.newest ∙ y.newest)
 
 pub still_asked : (ts : List Transaction) (from : Address) (tid : ℕ) (packets : List Packet) (who : Address) (k : ℕ)
     (responder : Address) (a : Asked ts who k responder) →

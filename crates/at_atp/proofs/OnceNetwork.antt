@@ -16,9 +16,10 @@ use Rattle.at_atp.specs.Transactions.{Transaction, transaction_of, Asked, answer
 use Rattle.at_atp_responder.specs.declared.reception.Key.{Key}
 use Rattle.at_atp.proofs.Carried.{Tells}
 use Rattle.at_atp.proofs.KeyedRecords.{one_key, those, none_those, others_without}
-use Rattle.at_atp.proofs.Newest.{joined, joined_exactly, others_unanswered, some_same}
+use Rattle.at_atp.proofs.Newest.{joined, joined_exactly, others_unanswered}
 use Rattle.at_atp.proofs.Stages.{Stage, more_if, request_staged, release_staged, release_not_new, answer_staged}
 use Rattle.at_atp.proofs.Stages.{expiry_staged, others_answered, others_taken}
+use Rattle.std.proofs.lemmas.Option.{same_Some}
 
 -- each exactly-once transaction that is the newest of its number is at some stage, by the records of its responder
 abbrev pub EachOnce : List Transaction → (Address → List Record) → (Key → ℕ) → (Address → Key → Bool) → Type 0
@@ -42,7 +43,7 @@ those_put key responders place rs at same = go (same_address place at) refl
 asks_there : (asked : List Transaction) (key : Key) (place at : Address) (t : Asked asked key.from key.tid place)
     (a : Asked asked key.from key.tid at) → (t.transaction ≡ a.transaction) × (place ≡ at)
 asks_there asked key place at t a =
-    let same : t.transaction ≡ a.transaction = some_same t.transaction a.transaction (sym t.newest ∙ a.newest) in
+    let same : t.transaction ≡ a.transaction = same_Some t.transaction a.transaction (sym t.newest ∙ a.newest) in
     (same, sym t.asked_it ∙ ap (λ x. x.responder) same ∙ a.asked_it)
 
 -- a request that comes finds that its record did not expire
@@ -180,7 +181,7 @@ answered_once asked responders hands expired place k packets asks free each =
         (those k (put responders place (after_answer (responders place) k packets) at))
     own at a xo =
         let is : joined asks.transaction packets
-        ≡ a.transaction = some_same (joined asks.transaction packets) a.transaction
+        ≡ a.transaction = same_Some (joined asks.transaction packets) a.transaction
         (sym (joined_exactly asked k.from k.tid packets asks.transaction asks.newest) ∙ a.newest) in
         let there : place ≡ at = sym asks.asked_it ∙ ap (λ x. x.responder) is ∙ a.asked_it in
         subst (λ x. Stage a.transaction.answers (hands k) (expired x k)
@@ -253,4 +254,4 @@ begun_once asked responders hands expired t fresh none each = λ key at a xo. go
         ≡ [] = subst (λ k. those k (responders at) ≡ [])
         (one_key (record { from = t.requester; tid = t.tid }) key e)
         (none_those (record { from = t.requester; tid = t.tid }) (responders at) (none at)) in
-        subst (Stage u.answers 0 false) (sym nothing) (refl, sym (ap (λ x. x.answers) (some_same t u newest)) ∙ fresh)
+        subst (Stage u.answers 0 false) (sym nothing) (refl, sym (ap (λ x. x.answers) (same_Some t u newest)) ∙ fresh)

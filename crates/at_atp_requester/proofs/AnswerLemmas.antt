@@ -56,7 +56,3 @@ gathered-whole done (Some p ∷ parts) packets h =
     go ih false g =
         let m = more (whole parts) g in
         ih m.0 m.1 ∙ append_assoc done (p.packet ∷ []) m.0 ∙ ap (λ l. done ++ l) m.2
-
-pub some_of : {X : Type 0} (o : Option X) → is_some o ≡ true → (x : X) × (o ≡ Some x)
-some_of None h = absurd (false≢true h)
-some_of (Some x) h = (x, refl)

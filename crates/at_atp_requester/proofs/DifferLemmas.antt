@@ -2,7 +2,7 @@
 use Rattle.std.proofs.Common.{◌≡◌, ℕ, zero, suc, ◌+◌, ◌<◌, Bool, true, false, cond, List, [], ◌∷◌, ◌++◌, length}
 use Rattle.std.proofs.Common.{set, Option, Some, None, refl, sym, ap, subst, ◌∙◌, arith}
 use Rattle.std.specs.Prelude.{find, remove, option_map, nat_lt, ◌==◌, ◌||◌}
-use Rattle.std.proofs.lemmas.Bool.{true≢false, eq-eqb, eqb-true, ne_eqb}
+use Rattle.std.proofs.lemmas.Bool.{eqb-true}
 use Rattle.std.proofs.lemmas.Bool.Decides.{nat_tests}
 use Rattle.std.proofs.lemmas.List.{length-append}
 use Rattle.at_ddp.specs.declared.address.Address.{Address}
@@ -20,16 +20,14 @@ use Rattle.at_atp_requester.proofs.OpenLemmas.{head_apart, tail_apart, cons_apar
 use Rattle.at_atp_requester.proofs.OpenLemmas.{drawn_free}
 use Rattle.at_atp_requester.proofs.MoveLemmas.{kept_tid}
 use Rattle.at_atp_requester.proofs.StayLemmas.{all_units, of_number}
-
-flipped : (a b : ℕ) → (a == b) ≡ false → (b == a) ≡ false
-flipped a b h = ne_eqb b a (λ e. true≢false (sym (eq-eqb a b (sym e)) ∙ h))
+use Rattle.at_ddp.proofs.EqualLemmas.{apart}
 
 differ_append : (ts : List Transaction) (t : Transaction) → NumbersDiffer ts → has_number ts t.tid ≡ false
     → NumbersDiffer (ts ++ t ∷ [])
-differ_append [] t h apart = (refl, tt)
-differ_append (x ∷ ts) t h apart = (
-  both_apart ts (t ∷ []) x.tid h.0 (cons_apart t [] x.tid (flipped x.tid t.tid (head_apart x ts t.tid apart)) refl),
-  differ_append ts t h.1 (tail_apart x ts t.tid apart),
+differ_append [] t h new = (refl, tt)
+differ_append (x ∷ ts) t h new = (
+  both_apart ts (t ∷ []) x.tid h.0 (cons_apart t [] x.tid (apart x.tid t.tid (head_apart x ts t.tid new)) refl),
+  differ_append ts t h.1 (tail_apart x ts t.tid new),
 )
 
 differ_without : (p : Transaction → Bool) (ts : List Transaction) → NumbersDiffer ts

@@ -10,6 +10,7 @@ use Rattle.at_atp_responder.specs.AtOnce.{with_request}
 use Rattle.at_atp_responder.specs.Records.{Record, Waiting, Answered, after_answer, asked_for, is_key, is_kept}
 use Rattle.at_atp_responder.specs.Records.{responses}
 use Rattle.at_atp_responder.specs.declared.reception.NewRequest.{NewRequest}
+use Rattle.at_ddp.proofs.TableLemmas.{without_last}
 
 -- the record of the request
 abbrev waiting : NewRequest → Record
@@ -17,16 +18,6 @@ waiting q = record { key = q.key; state = Waiting false q.bitmap }
 
 own : (q : NewRequest) → is_key q.key (waiting q) ≡ true
 own q = rw (same_address_itself q.key.from, eq-eqb q.key.tid q.key.tid refl) refl
-
-without_last : (p : Record → Bool) (rs : List Record) (x : Record) → find p rs ≡ None → p x ≡ true
-    → without_first p (rs ++ x ∷ []) ≡ rs
-without_last p [] x none is = rw is refl
-without_last p (r ∷ rs) x none is = go (λ g. without_last p rs x g is) (p r) refl none
-  where
-    go : (find p rs ≡ None → without_first p (rs ++ x ∷ []) ≡ rs) → (b : Bool) → p r ≡ b → cond b (Some r) (find p rs)
-        ≡ None → without_first p (r ∷ (rs ++ x ∷ [])) ≡ r ∷ rs
-    go ih true e g = absurd (cc)
-    go ih false e g = rw e (ap (λ l. r ∷ l) (ih g))
 
 stands_last : (rs : List Record) (q : NewRequest) → find (is_key q.key) rs ≡ None
     → find (is_key q.key) (with_request rs q) ≡ Some (waiting q)

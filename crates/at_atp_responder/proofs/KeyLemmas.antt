@@ -12,12 +12,9 @@ use Rattle.at_atp_responder.specs.Once.{same_key}
 use Rattle.at_atp_responder.specs.Records.{Record, Repeat, IsRepeat, is_key}
 use Rattle.at_atp_responder.specs.declared.reception.Key.{Key}
 use Rattle.at_atp_responder.specs.declared.reception.Reception.{Reception}
+use Rattle.at_ddp.proofs.CaseLemmas.{regrouped}
 
 -- ---- how keys are compared
-
-regrouped : (a b c d : Bool) → ((a && (b && c)) && d) ≡ (((a && b) && c) && d)
-regrouped true b c d = refl
-regrouped false b c d = refl
 
 -- keys as the code compares them
 abbrev pub eq_key : Key → Key → Bool

@@ -52,11 +52,6 @@ pub record Told {W E A : Type 0} (page : W → Page) (heard : E → Page) (known
   pub has : HasFrames known frames read
   pub printed : Printed page heard [] [] frames old new
 
--- what holds at all holds on an error
-pub on_error : {A E : Type 0} (r : Result A E) (P : Type 0) → P → OnErr r P
-on_error (Ok a) P h = tt
-on_error (Err e) P h = h
-
 -- any bytes begin with none
 first_nothing : (known : Option (List ℕ)) → AreFirst known []
 first_nothing None = tt

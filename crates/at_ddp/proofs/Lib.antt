@@ -1,9 +1,11 @@
 pub mod Alls
 pub mod BitLemmas
+pub mod CaseLemmas
 pub mod CountLemmas
 pub mod DistinctLemmas
 pub mod EqualLemmas
 pub mod FoundLemmas
+pub mod ListLemmas
 mod MarkLemmas
 pub mod MemberLemmas
 pub mod NumberLemmas

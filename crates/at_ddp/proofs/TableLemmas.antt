@@ -1,8 +1,9 @@
 -- The place of the first entry that passes a test.
-use Rattle.std.proofs.Common.{◌≡◌, ℕ, suc, ◌+◌, ◌<◌, Bool, true, false, cond, List, [], ◌∷◌, length, get_or, set}
+use Rattle.std.proofs.Common.{◌≡◌, ℕ, suc, ◌+◌, ◌<◌, Bool, true, false, cond, List, [], ◌∷◌, ◌++◌, length, get_or, set}
 use Rattle.std.proofs.Common.{Option, Some, None, IsSome, refl, sym, ap, subst, ◌∙◌, arith}
 use Rattle.std.specs.Prelude.{find, remove}
 use Rattle.std.specs.List.{position_from}
+use Rattle.std.proofs.lemmas.Bool.{true≢false}
 use Rattle.at_ddp.specs.Tables.{replaced, without_first}
 
 -- the first entry that passes stands at i
@@ -96,3 +97,26 @@ pub some_by : {X : Type 0} (p : X → Bool) (xs given : List X) (r : Option ℕ)
     → (find p xs ≡ None → ⊥) → IsSome r
 some_by p xs given (Some i) same is some = refl
 some_by p xs given None same is some = absurd (some (none_by p xs given None same is refl))
+
+-- the only entry that passes is taken away again
+pub without_last : {X : Type 0} (p : X → Bool) (xs : List X) (x : X) → find p xs ≡ None → p x ≡ true
+    → without_first p (xs ++ x ∷ []) ≡ xs
+without_last p [] x none is = rw is refl
+without_last {X} p (y ∷ ys) x none is = go (λ g. without_last p ys x g is) (p y) refl none
+  where
+    go : (find p ys ≡ None → without_first p (ys ++ x ∷ []) ≡ ys) → (b : Bool) → p y ≡ b → cond b (Some y) (find p ys)
+        ≡ None → without_first p (y ∷ (ys ++ x ∷ [])) ≡ y ∷ ys
+    go ih true e g = absurd (cc)
+    go ih false e g = rw e (ap (λ l. y ∷ l) (ih g))
+
+-- where one test finds an entry that passes another, the other finds one
+pub found_too : {X : Type 0} (p q : X → Bool) (x : X) (xs : List X) → find q xs ≡ Some x → p x ≡ true → (o : X)
+    × (find p xs ≡ Some o)
+found_too p q x [] is passes = absurd (cc)
+found_too {X} p q x (z ∷ zs) is passes = go (λ f. found_too p q x zs f passes) (p z) refl (q z) is
+  where
+    go : (find q zs ≡ Some x → (o : X) × (find p zs ≡ Some o)) → (a : Bool) → p z ≡ a → (b : Bool)
+        → cond b (Some z) (find q zs) ≡ Some x → (o : X) × (find p (z ∷ zs) ≡ Some o)
+    go ih true e b f = (z, ap (λ c. cond c (Some z) (find p zs)) e)
+    go ih false e true f = let same : z ≡ x = cc in absurd (true≢false (sym passes ∙ ap p (sym same) ∙ e))
+    go ih false e false f = let more = ih f in (more.0, ap (λ c. cond c (Some z) (find p zs)) e ∙ more.1)

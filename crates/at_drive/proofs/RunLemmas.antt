@@ -61,12 +61,3 @@ all_pass p xs i x within is all = go (p (get_or xs i x)) refl
     go : (b : Bool) → p (get_or xs i x) ≡ b → p x ≡ true
     go true h = ap p is ∙ h
     go false h = absurd (true≢false (sym all ∙ list_all_at p xs i x within h))
-
--- what holds of an answer that is, or is not, an error
-pub if_err : {T E : Type 0} (r : Result T E) (P : Type 0) → is_err r ≡ true → OnErr r P → P
-if_err (Ok x) P is p = absurd (true≢false (sym is))
-if_err (Err e) P is p = p
-
-pub if_ok : {T E : Type 0} (r : Result T E) (P : Type 0) → is_err r ≡ false → OnOk r P → P
-if_ok (Ok x) P is p = p
-if_ok (Err e) P is p = absurd (true≢false is)

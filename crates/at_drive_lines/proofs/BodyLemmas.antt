@@ -75,28 +75,6 @@ event_setup A lines d is h =
 
 -- ---- lines
 
-pub port_taken : (A : Type 0) (lines : List (List (List ℕ))) (net line : List (List ℕ)) (d : DriveDraft A)
-    → lines ≡ net ∷ [] → IsDraft (net ∷ []) d.setup → has_events d.setup ≡ false → SaysPort line d.port
-    → HasBody A (lines ++ line ∷ []) d
-port_taken A lines net line d is draft early says =
-    let nodes = no_nodes net d.setup draft in
-    record {
-      net = net;
-      port = line;
-      head = [];
-      last = [];
-      parts = ap (λ l. l ++ line ∷ []) is;
-      draft = draft;
-      placed = says;
-      ports = ap (have_ports d.port) nodes;
-      room = ap (leave_port d.port) nodes;
-      steps = [];
-      said = tt;
-      stand = refl;
-      early = λ e. refl;
-      late = λ l. absurd (false≢true (sym early ∙ l));
-    }
-
 pub head_taken : (A : Type 0) (lines : List (List (List ℕ))) (line : List (List ℕ)) (old new : DriveDraft A)
     → HasBody A lines old → new.port ≡ old.port → has_events old.setup ≡ false → has_events new.setup ≡ false
     → Takes old.setup line new.setup

@@ -60,15 +60,6 @@ module _ {A C E : Type 0} (S : C → ℕ → ℕ → List ℕ → Result (Unit {
       ∙ ap (λ i. first ++ (rest ++ news i)) there in
       (mid, came, between, y, rest ++ news (at + 1 + length ss), drives, told, more, printed)
 
--- what holds of an answer that is, or is not, an error
-pub if_err : {T E : Type 0} (r : Result T E) (P : Type 0) → is_err r ≡ true → OnErr r P → P
-if_err (Ok x) P is p = absurd (true≢false (sym is))
-if_err (Err e) P is p = p
-
-pub if_ok : {T E : Type 0} (r : Result T E) (P : Type 0) → is_err r ≡ false → OnOk r P → P
-if_ok (Ok x) P is p = p
-if_ok (Err e) P is p = absurd (true≢false is)
-
 -- ---- the nodes of a setup before the first step
 
 numbers_from : {A : Type 0} (s : Setup A) (ns : List NodeSetup) → map node_number (map (opening_node s) ns)

@@ -16,8 +16,9 @@ use Rattle.at_nbp.specs.declared.name.Name.{Name}
 use Rattle.at_name_socket.specs.NameSockets.{SocketState, closing, is_claim}
 use Rattle.at_name_socket.specs.Sockets.{Closes, IsClaim, IsSocket, changed, claim_of, open_at}
 use Rattle.at_name_socket.specs.declared.claim.Claim.{Claim}
-use Rattle.at_name_socket.proofs.OpenLemmas.{none_found, found_without, without_all, found_replaced, turned}
+use Rattle.at_name_socket.proofs.OpenLemmas.{none_found, found_without, without_all, found_replaced}
 use Rattle.at_name_socket.proofs.OpenLemmas.{other_search, other_claim, apart_search, apart_claim, with_claim}
+use Rattle.at_ddp.proofs.EqualLemmas.{apart}
 
 pub closes_open : (s : SocketState) (id : ℕ) → IsSocket s → AreLookups s.lookups → (other : ℕ)
     → open_at (closing s id) other ≡ changed (Closes id) (open_at s) other
@@ -49,12 +50,12 @@ closes_lawful s id is = record {
 }
   where
     stays : (c : Claim) → IsClaim s c → is_claim id c ≡ false → IsClaim (closing s id) c
-    stays c h apart = record {
+    stays c h differs = record {
       object = h.object;
       kind = h.kind;
       socket = h.socket;
       stands = subst IsSome (sym
-          (found_without (has_id id) (has_id c.id) s.lookups.searches (other_search id c.id (turned c.id id apart))))
+          (found_without (has_id id) (has_id c.id) s.lookups.searches (other_search id c.id (apart c.id id differs))))
           h.stands;
     }
 

@@ -5,7 +5,6 @@ use Rattle.std.specs.Option.{option_or}
 use Rattle.std.specs.Prelude.{option_map, if◌then◌else◌, ◌==◌}
 use Rattle.std.specs.List.{AllByRecursion, IsDistinct}
 use Rattle.std.proofs.lemmas.Bool.{eqb-true, eq-eqb}
-use Rattle.std.proofs.lemmas.Cmp.{nat_eq_equiv}
 use Rattle.std.proofs.lemmas.List.Folds.{find-append}
 use Rattle.at_ddp.specs.Tables.{replaced, without_first}
 use Rattle.at_ddp.proofs.Alls.{all_both, all_implied, none_met}
@@ -17,6 +16,7 @@ use Rattle.at_nbp.specs.declared.name.Name.{Name}
 use Rattle.at_name_socket.specs.NameSockets.{SocketState, any_pattern, claim_begun, is_claim}
 use Rattle.at_name_socket.specs.Sockets.{IsClaim, IsSocket, Open, Opens, changed, claim_of, open_at}
 use Rattle.at_name_socket.specs.declared.claim.Claim.{Claim}
+use Rattle.at_ddp.proofs.EqualLemmas.{apart}
 
 -- ---- entries that are found
 
@@ -73,9 +73,6 @@ found_replaced {X} {Y} p q look y (x ∷ xs) same = go (found_replaced p q look 
     go ih false e f = there (q x) (ih f)
 
 -- ---- identifiers
-
-pub turned : (m n : ℕ) → (m == n) ≡ false → (n == m) ≡ false
-turned m n h = nat_eq_equiv.symm n m ∙ h
 
 pub other_search : (id other : ℕ) → (id == other) ≡ false → (l : Search) → has_id id l ≡ true → has_id other l ≡ false
 other_search id other apart l h = ap (λ n. n == other) (eqb-true l.id id h) ∙ apart
@@ -206,7 +203,7 @@ claim_lawful s id object kind socket is none new =
     let claim : Claim = record { id = id; object = object; kind = kind; socket = socket } in
     let apart : AllByRecursion (λ (c : Claim). (id == c.id) ≡ false) s.claims =
     all_implied (λ (c : Claim). is_claim id c ≡ false) (λ (c : Claim). (id == c.id) ≡ false) s.claims
-    (λ c h. turned c.id id h) (none_met (is_claim id) s.claims (unclaimed s id is none)) in
+    (λ c h. apart c.id id h) (none_met (is_claim id) s.claims (unclaimed s id is none)) in
     record {
       differ = differ_append (λ (a b : Claim). is_claim a.id b) s.claims claim is.differ apart;
       claims = all_both (IsClaim (claim_begun s id object kind socket)) s.claims (claim ∷ [])

@@ -2,7 +2,7 @@
 use Rattle.std.proofs.Common.{◌≡◌, ℕ, Bool, true, false, cond, List, [], ◌∷◌, map, length, Option, Some, None, Result}
 use Rattle.std.proofs.Common.{Ok, Err, refl, sym, subst}
 use Rattle.std.proofs.lemmas.Bool.{eqb-true}
-use Rattle.std.specs.Prelude.{IfErr, OnErr, ◌==◌}
+use Rattle.std.specs.Prelude.{IfErr, ◌==◌}
 use Rattle.at_ddp.specs.declared.address.Address.{Address}
 use Rattle.at_nbp.specs.Lookups as lookups
 use Rattle.at_nbp.specs.Packets.{BeginsWith, Content}
@@ -20,10 +20,6 @@ use Rattle.at_name_socket.specs.declared.step.Heard.TheVariants as heard
 pub if_err : {T E : Type 0} (r : Result T E) (P : E → Type 0) → ((e : E) → P e) → IfErr r P
 if_err (Ok x) P p = tt
 if_err (Err e) P p = p e
-
-pub on_err : {T E : Type 0} (r : Result T E) (P : Type 0) → P → OnErr r P
-on_err (Ok x) P p = tt
-on_err (Err e) P p = p
 
 -- some step is what a packet does, and it has an effect
 abbrev pub SomeStep : SocketState → Content → Function → Type 0

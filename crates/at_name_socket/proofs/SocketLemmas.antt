@@ -1,12 +1,10 @@
 -- What is relayed, and lists of finds and claims.
 use Rattle.std.proofs.Common.{◌≡◌, ℕ, zero, suc, ◌+◌, ◌<◌, List, [], ◌∷◌, ◌++◌, length, get_or, take, map, Option, Some}
-use Rattle.std.proofs.Common.{None, IsSome, refl, sym, ap, subst, ◌∙◌, append-nil, arith}
+use Rattle.std.proofs.Common.{None, IsSome, refl, sym, ap, subst, ◌∙◌, arith}
 use Rattle.std.specs.Prelude.{find, slice_get, IfSome, Result, Ok, Err}
 use Rattle.std.specs.List.{position_from}
 use Rattle.std.proofs.lemmas.Bool.{eqb-true}
 use Rattle.at_ddp.proofs.TableLemmas.{found, none_by, without_none}
-use Rattle.at_ddp.specs.Outbox.{Outbox}
-use Rattle.at_ddp.specs.Sending.{Sends}
 use Rattle.at_ddp.specs.declared.address.Address.{Address}
 use Rattle.at_name_socket.specs.NameSockets.{Ending, IsEnding, SocketState, claim_ended, claim_fault, closing, ended}
 use Rattle.at_name_socket.specs.NameSockets.{ending, fault_of, finish, finds_told, finish_fault, is_claim, relayed_in}
@@ -46,9 +44,6 @@ relayed_one s neighbours p t zone one is =
           (relayed (zone_of s.table.zone neighbours e.address.node) p),
     ) in
     ap (λ z. (record s.table.own { node = 255 }, spelling (relayed z p)) ∷ []) is ∙ ap (map sent) (sym one)
-
-pub sends_nothing : (out : Outbox) → Sends out out []
-sends_nothing out = record { items = sym (append-nil out.items); from = refl; kind = refl }
 
 -- ---- what becomes of a claim
 

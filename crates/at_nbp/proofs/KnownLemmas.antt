@@ -3,13 +3,12 @@ use Rattle.std.proofs.Common.{◌≡◌, ◌&&◌, ◌||◌, Bool, true, false, 
 use Rattle.std.specs.Prelude.{nat_eq, nat_lt, not, if◌then◌else◌}
 use Rattle.std.specs.Cmp.Lexicographic.{pointwise}
 use Rattle.std.specs.List.{list_any}
-use Rattle.std.proofs.lemmas.Bool.{and_parts}
+use Rattle.std.proofs.lemmas.Bool.{and_parts, not-true}
 use Rattle.indexmap.specs.IndexSet.{insert_key}
 use Rattle.at_nbp.specs.Lookups.{joins, same_find}
 use Rattle.at_nbp.specs.Names.{is_match}
 use Rattle.at_nbp.specs.declared.find.Find.{Find}
 use Rattle.at_nbp.specs.declared.name.Name.{Name}
-use Rattle.at_nbp.proofs.LookupLaws.{not_true}
 
 -- finds as the code compares them
 abbrev pub eq_find : Find → Find → Bool
@@ -48,5 +47,5 @@ put_in pattern finds later f joins is =
     joins in
     let inner = and_parts (is_match pattern f.name) (not (list_any (same_find f) finds)) outer.0 in
     let new : list_any (eq_find f) finds ≡ false = known_as f finds
-    ∙ not_true (list_any (same_find f) finds) inner.1 in
+    ∙ not-true (list_any (same_find f) finds) inner.1 in
     is ∙ ap (λ b. if b then finds else finds ++ f ∷ []) new

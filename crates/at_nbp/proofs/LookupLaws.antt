@@ -3,7 +3,7 @@ use Rattle.std.proofs.Common.{◌≡◌, ℕ, ◌+◌, ◌%◌, ◌<◌, Bool, t
 use Rattle.std.proofs.Common.{find, Option, Some, None, refl, sym, subst, ◌∙◌, arith}
 use Rattle.std.specs.Prelude.{nat_lt, not, ◌==◌, ◌&&◌}
 use Rattle.std.specs.List.{AllByRecursion, IsDistinct, list_any}
-use Rattle.std.proofs.lemmas.Bool.{true≢false, and_parts, eqb-true}
+use Rattle.std.proofs.lemmas.Bool.{and_parts, eqb-true, not-true}
 use Rattle.std.proofs.lemmas.Bool.Decides.{nat_tests}
 use Rattle.std.proofs.lemmas.Cmp.{nat_eq_equiv, nat_list_eq_equiv}
 use Rattle.std.proofs.lemmas.List.{length-append}
@@ -127,10 +127,6 @@ turned a b = λ i.
     && nat_eq_equiv.symm a.address.socket b.address.socket i)
     && nat_eq_equiv.symm a.enumerator b.enumerator i
 
-pub not_true : (b : Bool) → not b ≡ true → b ≡ false
-not_true true h = absurd (true≢false (sym h))
-not_true false h = refl
-
 joined_lawful : (s : Search) (f : Find) → IsSearch s → IsSearch (record s { finds = joined s.pattern s.finds f })
 joined_lawful s f h = go (joins s.pattern s.finds f) refl
   where
@@ -139,7 +135,7 @@ joined_lawful s f h = go (joins s.pattern s.finds f) refl
         let outer = and_parts (is_match s.pattern f.name && not (list_any (same_find f) s.finds))
         (nat_lt (length s.finds) 256) e in
         let inner = and_parts (is_match s.pattern f.name) (not (list_any (same_find f) s.finds)) outer.0 in
-        let new = none_any (same_find f) s.finds (not_true (list_any (same_find f) s.finds) inner.1) in
+        let new = none_any (same_find f) s.finds (not-true (list_any (same_find f) s.finds) inner.1) in
         let room : length s.finds < 256 = grind (arith, nat_tests, outer.1) in
         record {
           few = omega (arith, room, length-append s.finds (f ∷ []));

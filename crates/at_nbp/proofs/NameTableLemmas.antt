@@ -1,5 +1,5 @@
 -- A table of names: when a name can be registered, where one stands, and what holds of the names after each call.
-use Rattle.std.proofs.Common.{◌≡◌, ℕ, ◌<◌, Bool, true, false, List, [], ◌∷◌, ◌++◌, length, Option, Some, None, IsSome}
+use Rattle.std.proofs.Common.{◌≡◌, ℕ, ◌<◌, Bool, true, false, List, [], ◌∷◌, ◌++◌, length, Some, None, IsSome}
 use Rattle.std.proofs.Common.{refl, arith}
 use Rattle.std.specs.Prelude.{◌||◌, find, is_some, nat_le, if◌then◌else◌}
 use Rattle.std.specs.List.{IsDistinct, list_any}
@@ -12,6 +12,7 @@ use Rattle.at_ddp.proofs.CountLemmas.{length_without}
 use Rattle.at_nbp.specs.NameTables.{AreNames, has_number, is_called, is_no_text, register_fault}
 use Rattle.at_nbp.specs.declared.fault.NbpFault.TheVariants.{NameInUse, EmptyName, NamesFull}
 use Rattle.at_nbp.specs.declared.names.Registered.{Registered}
+use Rattle.at_ddp.proofs.CaseLemmas.{none_of}
 
 no_room : (few : Bool) → (if few then Some NamesFull else None) ≡ None → few ≡ false
 no_room true h = absurd cc
@@ -30,10 +31,6 @@ has_room names object kind h =
     go false false g = let full : nat_le 64 (length names) ≡ false = no_room (nat_le 64 (length names)) g in
         grind (arith, nat_tests, full)
 
-no_such : {X : Type 0} (o : Option X) → is_some o ≡ false → o ≡ None
-no_such None h = refl
-no_such (Some x) h = absurd (cc)
-
 -- no name is called so
 pub is_new : (names : List Registered) (object kind : List ℕ) → register_fault names object kind ≡ None
     → find (is_called object kind) names ≡ None
@@ -45,7 +42,7 @@ is_new names object kind h =
         (length names) then Some NamesFull else None) ≡ None → find (is_called object kind) names ≡ None
     go true b e g = absurd cc
     go false true e g = absurd cc
-    go false false e g = no_such (find (is_called object kind) names) e
+    go false false e g = none_of (find (is_called object kind) names) e
 
 -- ---- what holds of the names of every table
 

@@ -1,7 +1,7 @@
 -- Replies to a lookup can always be made, and which names match is known without them.
 use Rattle.std.proofs.Common.{◌≡◌, inl, inr, ℕ, zero, suc, ◌+◌, ◌<◌, ◌≤◌, Bool, true, false, List, [], ◌∷◌, ◌++◌}
 use Rattle.std.proofs.Common.{length, get_or, take, drop, map, refl, sym, ap, subst, ◌∙◌, append-nil, arith}
-use Rattle.std.specs.Prelude.{All, OnErr, Result, Ok, Err, nat_lt}
+use Rattle.std.specs.Prelude.{All, nat_lt}
 use Rattle.std.specs.List.{filter}
 use Rattle.std.proofs.lemmas.Bool.{ltb-false, ltb-true}
 use Rattle.std.proofs.lemmas.List.{length-append, length-drop, length-take-le, map-append, take_all, take_more}
@@ -85,11 +85,6 @@ some_replies (suc most) (e ∷ es) few short =
 pub replies_exist : (entries : List Entry) → All FitsStrings entries → (replies : List (List Entry))
     × AreReplies entries replies
 replies_exist entries short = some_replies (length entries) entries (omega arith) short
-
--- what holds anyway is owed with an error
-pub owed : {T E : Type 0} (r : Result T E) (P : Type 0) → P → OnErr r P
-owed (Ok x) P p = tt
-owed (Err e) P p = p
 
 -- ---- how many match
 

@@ -9,7 +9,7 @@ use Rattle.std.proofs.lemmas.List.{drop_all, length-append, length-map, length-t
 use Rattle.std.proofs.lemmas.List.{take_rest}
 use Rattle.std.proofs.lemmas.List.Elements.{All-drop, All-push, All-take, filter-append}
 use Rattle.at_ddp.specs.Outbox.{Outbox}
-use Rattle.at_ddp.specs.Sending.{Sends, HasRoomFor, finished}
+use Rattle.at_ddp.specs.Sending.{Sends, HasRoomFor}
 use Rattle.at_ddp.specs.declared.address.Address.{Address}
 use Rattle.at_nbp.specs.NameTables.{Table}
 use Rattle.at_nbp.specs.Names.{is_match}
@@ -22,6 +22,7 @@ use Rattle.at_nbp.specs.declared.names.Registered.{Registered}
 use Rattle.at_nbp.specs.declared.tuple.Tuple.{Tuple}
 use Rattle.at_nbp.proofs.PacketLemmas.{length_spelling}
 use Rattle.at_nbp.proofs.ListLemmas.{spelled, spelled_more, short_tuple}
+use Rattle.at_ddp.proofs.OutboxLemmas.{sends_both}
 
 -- the first tuples fit a reply, whose bytes are counted
 pub record InReply (tuples : List Tuple) (i len : ℕ) : Type 0 where
@@ -136,17 +137,6 @@ drop_sum zero m xs = let none : m ≡ zero + m = omega arith in ap (λ k. drop k
 drop_sum {X} (suc n) m [] = drop-nil m ∙ sym (drop-nil (suc n + m))
 drop_sum {X} (suc n) m (x ∷ xs) = let next : suc (n + m) ≡ suc n + m = omega arith in drop_sum n m xs
     ∙ ap (λ k. drop k (x ∷ xs)) next
-
-sends_both : (before between after : Outbox) (xs ys : List (Address × List ℕ)) → Sends before between xs
-    → Sends between after ys → Sends before after (xs ++ ys)
-sends_both before between after xs ys first next = record {
-  items = next.items ∙ (λ i. first.items i ++ map (finished (first.from i) (first.kind i)) ys)
-      ∙ append_assoc before.items (map (finished before.from before.kind) xs)
-      (map (finished before.from before.kind) ys)
-      ∙ ap (λ l. before.items ++ l) (sym (map-append (finished before.from before.kind) xs ys));
-  from = next.from ∙ first.from;
-  kind = next.kind ∙ first.kind;
-}
 
 -- the first tuples were sent, and there is room for the replies with the others
 pub record AreSent (entries : List Entry) (id : ℕ) (to : Address) (sent : ℕ) (old new : Outbox) : Type 0 where

@@ -10,6 +10,7 @@ use Rattle.at_node.specs.declared.numbers.Draw.{Draw}
 use Rattle.at_node.specs.Numbers.{CarriesNumber, end_drawn}
 use Rattle.at_node.specs.declared.numbers.Draw.TheVariants.{Conn, Lookup, Tid}
 use Rattle.at_stream_socket.specs.Carrying as streams
+use Rattle.std.proofs.lemmas.Option.{same_Some}
 
 -- nothing stands in a list of two nothings
 pub is_nowhere : {X : Type 0} (x : X) → ¬ Contains (None ∷ None ∷ []) (Some x)
@@ -23,11 +24,8 @@ is_first o x (zero, within, is) = is
 is_first o x (suc zero, within, is) = absurd (cc)
 is_first o x (suc (suc k), within, is) = absurd (omega arith)
 
-some_same : (x y : ℕ × ℕ) → Some x ≡ Some y → x ≡ y
-some_same x y h = cc
-
 pub same_pair : (a b c d : ℕ) → ◌≡◌ {A = Option (ℕ × ℕ)} (Some (a, b)) (Some (c, d)) → (a ≡ c) × (b ≡ d)
-same_pair a b c d h = let same = some_same (a, b) (c, d) h in
+same_pair a b c d h = let same = same_Some (a, b) (c, d) h in
     (ap (λ (p : ℕ × ℕ). p.0) same, ap (λ (p : ℕ × ℕ). p.1) same)
 
 -- ---- the identifiers of ends

@@ -1,5 +1,5 @@
 -- The releases that are listed are those that remove a record.
-use Rattle.std.proofs.Common.{◌≡◌, ℕ, true, false, List}
+use Rattle.std.proofs.Common.{◌≡◌, ℕ, true, List}
 use Rattle.std.proofs.Common.{find, Option, Some, None, inl, refl, ap}
 use Rattle.std.specs.Prelude.{option_map}
 use Rattle.std.proofs.lemmas.Bool.{true≢false, eq-eqb}

@@ -2,7 +2,7 @@
 use Rattle.std.proofs.Common.{◌≡◌, ◌≢◌, ℕ, ◌+◌, Bool, true, false, cond, List, [], ◌∷◌, ◌++◌, length, map}
 use Rattle.std.proofs.Common.{find, Option, Some, None, ◌⊎◌, inl, inr, refl, sym, ap, subst, ◌∙◌, arith, Ok, Err}
 use Rattle.std.specs.Prelude.{not, ◌==◌, ◌&&◌, option_map}
-use Rattle.std.proofs.lemmas.Bool.{true≢false, eq-eqb, eqb-true}
+use Rattle.std.proofs.lemmas.Bool.{true≢false, eq-eqb, eqb-true, not-true}
 use Rattle.at_ddp.specs.Tables.{replaced}
 use Rattle.at_adsp_end.specs.Calls.{heeds, is_idle, is_last, ticked, sent_again, open_again, probed}
 use Rattle.at_adsp_end.specs.Cuts.{Piece, open_piece, pieces, numbered}
@@ -136,10 +136,6 @@ probe_acts A n e is closed = rw (is, closed) (go (frees e tick.Probe))
     }
     go false = stays (is_last e tick.Probe)
 
-not_true : (b : Bool) → not b ≡ true → b ≡ false
-not_true true h = sym h
-not_true false h = refl
-
 both_true : (a b : Bool) → (a && b) ≡ true → (a ≡ true) × (b ≡ true)
 both_true true b h = (refl, h)
 both_true false b h = absurd (true≢false (sym h))
@@ -148,8 +144,8 @@ tick_acts : (A : Type 0) (n : NodeState) (k : Tick) (e : EndState) → find (has
     → heeds e k ≡ true → Acts n (timed {A = A} n (timer_of k e.id))
 tick_acts A n tick.Retransmit e is h =
     let both = both_true (not (is_closed e.phase)) (not (is_idle e)) h in
-    resend_acts A n e is (not_true (is_closed e.phase) both.0) (not_true (is_idle e) both.1)
-tick_acts A n tick.Probe e is h = probe_acts A n e is (not_true (is_closed e.phase) h)
+    resend_acts A n e is (not-true (is_closed e.phase) both.0) (not-true (is_idle e) both.1)
+tick_acts A n tick.Probe e is h = probe_acts A n e is (not-true (is_closed e.phase) h)
 
 -- ---- and only there
 

@@ -3,18 +3,13 @@ use Rattle.std.proofs.Common.{◌≡◌, ℕ, zero, suc, ◌+◌, ◌<◌, List,
 use Rattle.std.proofs.Common.{refl, sym, ap, ◌∙◌, arith, append_assoc}
 use Rattle.std.specs.Prelude.{IfSome, slice_get, filter_map}
 use Rattle.std.specs.List.{cons_option}
-use Rattle.std.proofs.lemmas.List.{drop_more}
-use Rattle.std.proofs.lemmas.Option.{slice_get_within, get_or_from_slice_get}
+use Rattle.at_ddp.proofs.ListLemmas.{drop_next}
 
 place_is : {X : Type 0} (P : X → Type 0) (xs : List X) (i : ℕ) → i < length xs → IfSome (slice_get xs i) P → (x : X)
     × (slice_get xs i ≡ Some x) × P x
 place_is P [] i lt h = absurd (omega (arith, lt))
 place_is P (x ∷ xs) zero lt h = (x, refl, h)
 place_is P (x ∷ xs) (suc i) lt h = place_is P xs i (omega (arith, lt)) h
-
-drop_next : {X : Type 0} (xs : List X) (i : ℕ) (x : X) → slice_get xs i ≡ Some x → drop i xs ≡ x ∷ drop (i + 1) xs
-drop_next xs i x at = drop_more xs i x (slice_get_within xs i x at)
-    ∙ ap (λ z. z ∷ drop (i + 1) xs) (get_or_from_slice_get xs i x x at)
 
 -- the next of the values that are seen of a list
 pub map_next : {X Y Z : Type 0} (h : Y → Z) (g : X → Y) (old : List Z) (xs : List X) (i : ℕ) (y : Y) → i < length xs

@@ -17,7 +17,7 @@ use Rattle.at_pcap.specs.Steps.{Moves, TakesFound, TellsMove}
 use Rattle.at_pcap.specs.declared.reader.CaptureError.{CaptureError}
 use Rattle.at_pcap.specs.declared.reader.CaptureError.TheVariants as broken
 use Rattle.at_pcap.proofs.FrontLemmas.{section_before}
-use Rattle.at_pcap.proofs.ReadingLemmas.{first_of}
+use Rattle.at_pcap.proofs.ReadingLemmas.{first_of, farther}
 use Rattle.at_pcap.proofs.RecordLemmas.{all_of, ended}
 
 -- these blocks were read, whose frames were taken, and this is the place behind them
@@ -49,9 +49,6 @@ more_taken : (S : Type 0) (takes : S → Frame → S → Type 0) (old mid new : 
     → FoldsTo takes old (with_found frames found) new
 more_taken S takes old mid new frames None before taken = subst (FoldsTo takes old frames) (sym taken) before
 more_taken S takes old mid new frames (Some f) before taken = FoldsTo-push takes old frames mid f new before taken
-
-farther : (at n m : ℕ) → at ≡ place n → place (at + m) ≡ place (n + m)
-farther at n m is = rw is (omega arith)
 
 none_first : (known : Option (List ℕ)) → AreFirst known []
 none_first None = tt

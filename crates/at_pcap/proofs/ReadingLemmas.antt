@@ -60,7 +60,7 @@ begin S takes known left h old bytes is read =
       here = ap place (sym (ap length (sym all) ∙ file_header_len bytes h is));
     }
 
-farther : (at n m : ℕ) → at ≡ place n → place (at + m) ≡ place (n + m)
+pub farther : (at n m : ℕ) → at ≡ place n → place (at + m) ≡ place (n + m)
 farther at n m is = rw is (omega arith)
 
 single : (p : Record) → IsRecord p → All IsRecord (p ∷ [])

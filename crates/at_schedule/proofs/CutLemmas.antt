@@ -5,6 +5,7 @@ use Rattle.std.specs.Prelude.{◌-◌, ◌==◌, if◌then◌else◌, IfSome, Op
 use Rattle.std.proofs.lemmas.List.{length-drop, take_all}
 use Rattle.memchr.specs.Find.{IsFirstByte}
 use Rattle.at_schedule.specs.Schedules.{add_first, lines_in}
+use Rattle.std.proofs.lemmas.Bool.{false_from_ne_true}
 
 abbrev pub is_feed : ℕ → Bool
 is_feed byte = byte == 10
@@ -12,10 +13,6 @@ is_feed byte = byte == 10
 -- the text ends its first line at this place
 abbrev pub EndsAt : List ℕ → ℕ → Type 0
 EndsAt text i = lines_in text ≡ take i text ∷ lines_in (drop (suc i) text)
-
-not_true : (b : Bool) → ¬ (b ≡ true) → b ≡ false
-not_true true h = absurd (h refl)
-not_true false h = refl
 
 ends_first : (text : List ℕ) (i : ℕ) → IsFirstByte is_feed text (Some i) → EndsAt text i
 ends_first [] i h = let high = h.0.high in absurd (omega (arith, high))
@@ -31,7 +28,7 @@ ends_first (c ∷ text) (suc i) h =
       h.1,
     ) in
     ap (λ b. if b then [] ∷ lines_in text else add_first c (lines_in text))
-    (not_true (is_feed c) (h.0.before 0 (omega arith) (omega arith)))
+    (false_from_ne_true (is_feed c) (h.0.before 0 (omega arith) (omega arith)))
     ∙ ap (add_first c) (ends_first text i later)
 
 pub within : (text : List ℕ) (r : Option ℕ) → IsFirstByte is_feed text r → IfSome r (λ end. end < length text)
@@ -50,11 +47,11 @@ cut_at text i h =
 
 -- a text without a line feed is one line
 one_line : (c : ℕ) (text : List ℕ) → IsFirstByte is_feed (c ∷ text) None → lines_in (c ∷ text) ≡ (c ∷ text) ∷ []
-one_line c [] h = ap (λ b. if b then [] ∷ [] else add_first c []) (not_true (is_feed c) (h 0 (omega arith)
+one_line c [] h = ap (λ b. if b then [] ∷ [] else add_first c []) (false_from_ne_true (is_feed c) (h 0 (omega arith)
     (omega arith)))
 one_line c (d ∷ text) h =
     ap (λ b. if b then [] ∷ lines_in (d ∷ text) else add_first c (lines_in (d ∷ text)))
-    (not_true (is_feed c) (h 0 (omega arith) (omega arith)))
+    (false_from_ne_true (is_feed c) (h 0 (omega arith) (omega arith)))
     ∙ ap (add_first c) (one_line d text (λ k low high. h (suc k) (omega arith) (omega (arith, high))))
 
 pub uncut : (text : List ℕ) → 0 < length text → IsFirstByte is_feed text None → lines_in text ≡ text ∷ []

@@ -20,7 +20,7 @@ use Rattle.at_words.specs.Words.{words_of}
 
 -- ---- events
 
-say_more : {A : Type 0} (lines : List (List ℕ)) (es : List (Event A)) (line : List ℕ) (e : Event A) → SayAll lines es
+pub say_more : {A : Type 0} (lines : List (List ℕ)) (es : List (Event A)) (line : List ℕ) (e : Event A) → SayAll lines es
     → Says line e → SayAll (lines ++ line ∷ []) (es ++ e ∷ [])
 say_more [] [] line e h says = (says, tt)
 say_more (l ∷ lines) (x ∷ es) line e h says = (h.0, say_more lines es line e h.1 says)

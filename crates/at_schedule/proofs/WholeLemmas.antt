@@ -18,13 +18,7 @@ use Rattle.at_schedule.specs.Says.{IsEventHere, Reads, SayAll, Says}
 use Rattle.at_schedule.specs.Schedules.{is_event_line, lines_in, setup_words}
 use Rattle.at_schedule.specs.Wholes.{AreRead}
 use Rattle.at_schedule.proofs.LineLemmas.{none_begins}
-
-say_more : {A : Type 0} (lines : List (List ℕ)) (es : List (Event A)) (line : List ℕ) (e : Event A) → SayAll lines es
-    → Says line e → SayAll (lines ++ line ∷ []) (es ++ e ∷ [])
-say_more [] [] line e h says = (says, tt)
-say_more (l ∷ lines) (x ∷ es) line e h says = (h.0, say_more lines es line e h.1 says)
-say_more [] (x ∷ es) line e h says = absurd h
-say_more (l ∷ lines) [] line e h says = absurd h
+use Rattle.at_schedule.proofs.ReadLemmas.{say_more}
 
 say_none : {A : Type 0} (es : List (Event A)) → SayAll [] es → es ≡ []
 say_none [] h = refl

@@ -4,17 +4,7 @@ use Rattle.std.proofs.Common.{subst, ◌∙◌}
 use Rattle.at_words.proofs.Digits.{same_byte, two_digits}
 use Rattle.hex.specs.Hex.{decode_of}
 use Rattle.at_words.specs.Texts.{AreGlyphs, IsZoneName, SpellsFirst}
-
--- fronts of one length are the same
-fronts : (xs ys us vs : List ℕ) → length xs ≡ length ys → xs ++ us ≡ ys ++ vs → (xs ≡ ys) × (us ≡ vs)
-fronts [] [] us vs long same = (refl, same)
-fronts [] (y ∷ ys) us vs long same = absurd (omega (arith, long))
-fronts (x ∷ xs) [] us vs long same = absurd (omega (arith, long))
-fronts (x ∷ xs) (y ∷ ys) us vs long same =
-    let head : x ≡ y = cc in
-    let tail : xs ++ us ≡ ys ++ vs = cc in
-    let rest = fronts xs ys us vs (omega (arith, long)) tail in
-    ((λ i. head i ∷ rest.0 i), rest.1)
+use Rattle.at_ddp.proofs.Octets.{append_parts}
 
 same_first : (word rest left : List ℕ) (byte other : ℕ) → SpellsFirst word byte rest → SpellsFirst word other left
     → (byte ≡ other) × (rest ≡ left)
@@ -33,7 +23,7 @@ same_first word rest left byte other (p, is, inr (digits, one, decoded)) (q, sam
     let both : 37 ∷ (digits ++ rest) ≡ 37 ∷ (pair ++ left) = ap (λ l. l ++ rest) (sym one) ∙ sym is ∙ same
     ∙ ap (λ l. l ++ left) two in
     let tail : digits ++ rest ≡ pair ++ left = cc in
-    let parts = fronts digits pair rest left (two_digits digits byte decoded ∙ sym (two_digits pair other told)) tail in
+    let parts = append_parts digits pair rest left (two_digits digits byte decoded ∙ sym (two_digits pair other told)) tail in
     (same_byte byte other (sym decoded ∙ ap decode_of parts.0 ∙ told), parts.1)
 
 none_spelled : (word rest : List ℕ) (byte : ℕ) → word ≡ [] → ¬ SpellsFirst word byte rest

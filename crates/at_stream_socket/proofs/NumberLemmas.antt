@@ -7,12 +7,10 @@ use Rattle.std.proofs.lemmas.Bool.{ne_eqb}
 use Rattle.at_ddp.specs.declared.address.Address.{Address}
 use Rattle.at_adsp_frame.specs.Segments.{Content, Spells}
 use Rattle.at_stream_socket.specs.Carrying.{Carries, Names, dest_of}
+use Rattle.std.proofs.lemmas.Option.{same_Some}
 
 abbrev pub numbered : ℕ → ℕ → Option (ℕ × ℕ)
 numbered node id = cond (id == 0) None (Some (node, id))
-
-some_same : (x y : ℕ × ℕ) → Some x ≡ Some y → x ≡ y
-some_same x y h = cc
 
 is_numbered : (n i node id : ℕ) → numbered n i ≡ Some (node, id) → (n ≡ node) × (i ≡ id) × ((id ≡ 0) → ⊥)
 is_numbered n i node id = go (i == 0) refl
@@ -21,7 +19,7 @@ is_numbered n i node id = go (i == 0) refl
         → (n ≡ node) × (i ≡ id) × ((id ≡ 0) → ⊥)
     go true e h = absurd (cc)
     go false e h =
-        let same = some_same (n, i) (node, id) h in
+        let same = same_Some (n, i) (node, id) h in
         let its : i ≡ id = ap (λ (p : ℕ × ℕ). p.1) same in
         (ap (λ (p : ℕ × ℕ). p.0) same, its, λ z. let no : (i == 0) ≡ true = ap (λ x. x == 0) (its ∙ z) in absurd (cc))
 

@@ -1,6 +1,6 @@
 -- What comes of a packet for a socket that answers.
 use Rattle.std.proofs.Common.{◌≡◌, ℕ, Bool, true, false, List, ◌++◌, map, refl, sym, ap, subst, ◌∙◌, Bor}
-use Rattle.std.proofs.lemmas.Bool.{false≢true, true≢false}
+use Rattle.std.proofs.lemmas.Bool.{false≢true, true≢false, false_from_ne_true}
 use Rattle.std.proofs.lemmas.List.{append-nil}
 use Rattle.at_ddp.specs.Outbox.{Posted}
 use Rattle.at_ddp.specs.declared.address.Address.{Address}
@@ -42,10 +42,6 @@ release_some A reception.Ignored = refl
 release_some A (reception.New key) = refl
 release_some A (reception.Again count) = refl
 release_some A reception.Released = refl
-
-pub not_true : (b : Bool) → (b ≡ true → ⊥) → b ≡ false
-not_true true f = absurd (f refl)
-not_true false f = refl
 
 -- ---- the service's socket
 
@@ -91,7 +87,7 @@ module _ (A : Type 0) (said : Reply A) (s : Seat) (a : TransactionState) (from :
   pub service_takes : (f : Content) (user bytes : List ℕ) → (finds_no_place a.service_responder from f ≡ true → ⊥)
       → ((received a.service_responder from f).reception ≡ reception.Ignored → ⊥)
       → takes_memory (service_asked s a from f user bytes said).report ≡ true
-  service_takes f user bytes some heeds = rw (not_true (finds_no_place a.service_responder from f) some)
+  service_takes f user bytes some heeds = rw (false_from_ne_true (finds_no_place a.service_responder from f) some)
       (go (received a.service_responder from f).reception heeds)
     where
       go : (r : Reception) → (r ≡ reception.Ignored → ⊥)

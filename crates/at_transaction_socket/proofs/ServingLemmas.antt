@@ -13,6 +13,7 @@ use Rattle.at_atp_responder.specs.Records.{came_again, request_came, passed, is_
 use Rattle.at_atp_responder.specs.Records.{received, record_fault}
 use Rattle.at_atp_responder.specs.declared.reception.Key.{Key}
 use Rattle.at_atp_responder.specs.declared.reception.Reception.TheVariants.{New}
+use Rattle.at_ddp.proofs.TableLemmas.{without_last}
 
 -- a new request has a record at the end, and had none
 pub record IsNew (rs : List Record) (t : Received) (key : Key) : Type 0 where
@@ -73,16 +74,6 @@ is_new rs from (Request mask xo timer tid user bytes) key h = go (is_passed_over
 
 own : (key : Key) (xo : Bool) (mask : ℕ) → is_key key (record { key = key; state = Waiting xo mask }) ≡ true
 own key xo mask = rw (same_address_itself key.from, eq-eqb key.tid key.tid refl) refl
-
-without_last : (p : Record → Bool) (rs : List Record) (x : Record) → find p rs ≡ None → p x ≡ true
-    → without_first p (rs ++ x ∷ []) ≡ rs
-without_last p [] x none is = rw is refl
-without_last p (r ∷ rs) x none is = go (λ g. without_last p rs x g is) (p r) refl none
-  where
-    go : (find p rs ≡ None → without_first p (rs ++ x ∷ []) ≡ rs) → (b : Bool) → p r ≡ b → cond b (Some r) (find p rs)
-        ≡ None → without_first p (r ∷ (rs ++ x ∷ [])) ≡ r ∷ rs
-    go ih true e g = absurd (cc)
-    go ih false e g = rw e (ap (λ l. r ∷ l) (ih g))
 
 -- its record waits, and taking it away leaves the records as they were
 pub waits : (rs : List Record) (t : Received) (key : Key) → IsNew rs t key → record_fault (find (is_key key) t.after)

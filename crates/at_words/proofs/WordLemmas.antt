@@ -7,7 +7,7 @@ use Rattle.std.specs.Option.{unwrap_or}
 use Rattle.std.specs.List.{onto_first, position_from, prefix_len, slice_split}
 use Rattle.std.proofs.lemmas.List.{length-drop, nil_from_length, take_all}
 use Rattle.std.proofs.lemmas.List.Splits.{slice_split-cons_no, slice_split-cons_yes}
-use Rattle.std.proofs.lemmas.Bool.{eq-eqb, eqb-true}
+use Rattle.std.proofs.lemmas.Bool.{eq-eqb, eqb-true, false_from_ne_true}
 use Rattle.std.proofs.lemmas.Bool.Decides.{eqb_tells}
 use Rattle.memchr.specs.Find.{IsFirstByte}
 use Rattle.at_words.specs.Words.{has_bytes, is_no_space, is_space, words_of}
@@ -27,7 +27,7 @@ fails_at p q is k (x ∷ xs) =
     ∙ stops_at (p x) k (prefix_len p xs) (k + length (x ∷ xs)) (position_from q (k + 1) xs)
     (ap (unwrap_or (position_from q (k + 1) xs)) (sym long) ∙ rest)
 
--- the first byte that fails a test ends the front that passes it
+-- the first byte that false_from_ne_true a test ends the front that passes it
 pub first_at : (p q : ℕ → Bool) → ((c : ℕ) → q c ≡ not (p c)) → (xs : List ℕ)
     → unwrap_or (position_from q 0 xs) (length xs) ≡ prefix_len p xs
 first_at p q is xs = ap (unwrap_or (position_from q 0 xs)) (sym (zero-add (length xs))) ∙ fails_at p q is 0 xs
@@ -37,17 +37,13 @@ abbrev moved : ℕ → Option ℕ → Option ℕ
 moved i None = None
 moved i (Some k) = Some (i + k)
 
-fails : (b : Bool) → ¬ (b ≡ true) → b ≡ false
-fails true h = absurd (h refl)
-fails false h = refl
-
 -- the first byte that passes a test, by its place in a text that begins at a place
 found_from : (test : ℕ → Bool) (i : ℕ) (xs : List ℕ) (r : Option ℕ) → IsFirstByte test xs r
     → position_from test i xs ≡ moved i r
 found_from test i [] None h = refl
 found_from test i [] (Some k) h = let high = h.0.high in absurd (omega (arith, high))
 found_from test i (x ∷ xs) None h =
-    ap (λ b. cond b (Some i) (position_from test (i + 1) xs)) (fails (test x) (h 0 (omega arith) (omega arith)))
+    ap (λ b. cond b (Some i) (position_from test (i + 1) xs)) (false_from_ne_true (test x) (h 0 (omega arith) (omega arith)))
     ∙ found_from test (i + 1) xs None (λ k low high. h (suc k) (omega arith) (omega (arith, high)))
 found_from test i (x ∷ xs) (Some zero) h =
     ap (λ b. cond b (Some i) (position_from test (i + 1) xs)) h.1 ∙ ap Some (omega arith)
@@ -62,7 +58,7 @@ found_from test i (x ∷ xs) (Some (suc k)) h =
       h.1,
     ) in
     ap (λ b. cond b (Some i) (position_from test (i + 1) xs))
-    (fails (test x) (h.0.before 0 (omega arith) (omega arith)))
+    (false_from_ne_true (test x) (h.0.before 0 (omega arith) (omega arith)))
     ∙ found_from test (i + 1) xs (Some k) later ∙ ap Some (omega arith)
 
 same_place : (r : Option ℕ) → moved 0 r ≡ r
@@ -176,6 +172,6 @@ pub is_zero : (n : ℕ) (b : Bool) → b ≡ true → b ≡ (n == 0) → n ≡ 0
 is_zero n b holds is = eqb-true n 0 (sym is ∙ holds)
 
 pub is_some : (n : ℕ) (b : Bool) → b ≡ false → b ≡ (n == 0) → 0 < n
-is_some n b fails is =
+is_some n b false_from_ne_true is =
     let differs : n ≢ 0 = λ same. cc (eq-eqb n 0 same) in
     omega arith

@@ -13,6 +13,7 @@ use Rattle.at_nodes.specs.Nodes.{is_numbered}
 use Rattle.at_world.specs.Worlds.{WorldState, node_at, recorded}
 use Rattle.at_ddp.specs.Tables.{replaced}
 use Rattle.at_world.proofs.Nodes.{at_after}
+use Rattle.std.proofs.lemmas.List.{map-append}
 
 -- a datagram as it was sent, and the event that sent it
 pub record Wire : Type 0 where
@@ -42,10 +43,6 @@ pub record CableTie (w : WorldState) (c : Cable) : Type 0 where
   pub wires : List Wire
   pub sent : w.sent ≡ map spelled_wire wires
   pub seats : (k : ℕ) (n : NodeState) → node_at w k ≡ Some n → SeatTie c k n
-
-pub map_both : {X Y : Type 0} (f : X → Y) (xs ys : List X) → map f (xs ++ ys) ≡ map f xs ++ map f ys
-map_both f [] ys = refl
-map_both f (x ∷ xs) ys = ap (λ l. f x ∷ l) (map_both f xs ys)
 
 posted_wires : (event : ℕ) (out : List Outgoing) → map (stamp event) (map posted out)
     ≡ map spelled_wire (map (wire event) out)
@@ -85,7 +82,7 @@ cable_next A w c k n o t stands same =
         router = t.router;
         wires = t.wires ++ map (wire w.events) o.out;
         sent = (λ i. t.sent i ++ posted_wires w.events o.out i)
-            ∙ sym (map_both spelled_wire t.wires (map (wire w.events) o.out));
+            ∙ sym (map-append spelled_wire t.wires (map (wire w.events) o.out));
         seats = λ j y h. found_after k j o.state n y w.nodes (SeatTie c j) its.number stands h
             (λ e. subst (λ i. SeatTie c i o.state) e its) (λ e g. t.seats j y g);
       },

@@ -6,9 +6,6 @@ use Rattle.at_ddp.specs.Tables.{replaced}
 use Rattle.at_node.specs.Nodes.{NodeState}
 use Rattle.at_nodes.specs.Nodes.{is_numbered}
 
-some_same : (a b : NodeState) → Some a ≡ Some b → a ≡ b
-some_same a b h = cc
-
 -- the node of a number, once that of another or the same number changed
 pub at_after : (k j : ℕ) (x n : NodeState) (nodes : List NodeState) → x.seat.number ≡ k → find (is_numbered k) nodes
     ≡ Some n → find (is_numbered j) (replaced (is_numbered k) x nodes)

@@ -1,8 +1,8 @@
 -- What comes of a packet for the router's zone socket.
 use Rattle.std.proofs.Common.{◌≡◌, ℕ, Bool, true, false, List, ◌++◌, map, Option, Some, None, refl, sym, ap, ◌∙◌, inl}
 use Rattle.std.proofs.Common.{inr}
-use Rattle.std.specs.Prelude.{is_some, option_map}
-use Rattle.std.proofs.lemmas.Bool.{false≢true, true≢false}
+use Rattle.std.specs.Prelude.{option_map}
+use Rattle.std.proofs.lemmas.Bool.{false≢true, true≢false, false_from_ne_true}
 use Rattle.std.proofs.lemmas.List.{append-nil}
 use Rattle.at_ddp.specs.Datagram.{Content as Datagram}
 use Rattle.at_ddp.specs.Outbox.{Posted}
@@ -24,7 +24,7 @@ use Rattle.at_event.specs.Outcomes.{wants_memory, Outcome, Over, idle, posted, s
 use Rattle.at_event.specs.Kinds.{takes_memory}
 use Rattle.at_event.proofs.OutcomeLemmas.{comes_with}
 use Rattle.at_transaction_socket.specs.Responders.{is_release, released_report}
-use Rattle.at_transaction_socket.proofs.ResponderLemmas.{not_true, release_some}
+use Rattle.at_transaction_socket.proofs.ResponderLemmas.{release_some}
 use Rattle.at_zone_socket.specs.AtpHearing.{HearsAt, HearsAtpFault, Zones}
 use Rattle.at_zone_socket.specs.AtpParts.{AtpState, with_zones}
 use Rattle.at_zone_socket.specs.ZoneSocket.{AtZones, page_packet, at_zones, zone_asked, zone_released}
@@ -79,7 +79,7 @@ pub zone_takes : (A : Type 0) (s : Seat) (a : ZoneState) (from : Address) (f : C
     (start : ℕ) → (finds_no_place a.zone_responder from f ≡ true → ⊥)
     → ((received a.zone_responder from f).reception ≡ reception.Ignored → ⊥)
     → takes_memory (zone_asked {A = A} s a from f table start).report ≡ true
-zone_takes A s a from f table start some heeds = rw (not_true (finds_no_place a.zone_responder from f) some)
+zone_takes A s a from f table start some heeds = rw (false_from_ne_true (finds_no_place a.zone_responder from f) some)
     (go (received a.zone_responder from f).reception heeds)
   where
     go : (r : Reception) → (r ≡ reception.Ignored → ⊥) → takes_memory
@@ -90,14 +90,6 @@ zone_takes A s a from f table start some heeds = rw (not_true (finds_no_place a.
     go (reception.New key) heeds = refl
 
 -- ---- a datagram
-
-pub some_of : {X : Type 0} (o : Option X) → is_some o ≡ true → (x : X) × (o ≡ Some x)
-some_of None h = absurd (false≢true h)
-some_of (Some x) h = (x, refl)
-
-pub none_of : {X : Type 0} (o : Option X) → is_some o ≡ false → o ≡ None
-none_of None h = refl
-none_of (Some x) h = absurd (true≢false h)
 
 module _ (A : Type 0) (said : Reply A) (s : Seat) (a : AtpState) (d : Datagram) where
   pub for_no_router : (before : List Posted) (tables : Option Tables) → tables ≡ None

@@ -1,6 +1,6 @@
 use Rattle.std.proofs.Common.{refl}
-use Rattle.at_adsp_ends.proofs.FindLemmas.{drop_next}
 use Rattle.at_adsp_ends.proofs.standing.+any_at_from.Goals as goal
+use Rattle.at_ddp.proofs.ListLemmas.{drop_next}
 
 pub returns-then-has_remote_at : goal.returns-then-has_remote_at
 returns-then-has_remote_at g t c = rw (

@@ -6,8 +6,9 @@ use Rattle.at_drive.specs.Drives.{Driven, Runs, noting, number_of, opening_drive
 use Rattle.at_drive.specs.Steps.{node_of, numbers_of, stands_in}
 use Rattle.at_drive.proofs.CountLemmas.{all_counted}
 use Rattle.at_drive.proofs.NodeLemmas.{begin_numbers}
-use Rattle.at_drive.proofs.RunLemmas.{all_pass, if_err, if_ok, left_alone, left_at, next_driven}
+use Rattle.at_drive.proofs.RunLemmas.{all_pass, left_alone, left_at, next_driven}
 use Rattle.at_drive.proofs.driving.drive.Goals as goal
+use Rattle.at_ddp.proofs.CaseLemmas.{if_err, if_ok}
 
 pub returns-in_default-clause-driven : goal.returns-in_default-clause-driven
 returns-in_default-clause-driven g c = (

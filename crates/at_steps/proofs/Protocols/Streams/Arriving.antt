@@ -42,9 +42,7 @@ use Rattle.at_steps.proofs.Protocols.Streams.Moves.{Becomes, IsIts, NamesEnd, be
 use Rattle.at_steps.proofs.Protocols.Streams.Moves.{idles}
 use Rattle.at_steps.proofs.Protocols.Streams.Moves.{its_own, own, plain_step}
 use Rattle.at_steps.proofs.Protocols.Streams.Ours.{all_ours}
-
-some_same : {X : Type 0} (x y : X) → Some x ≡ Some y → x ≡ y
-some_same x y h = cc
+use Rattle.std.proofs.lemmas.Option.{same_Some}
 
 module _ (A : Type 0) (laws : HearingLaws) (setting : Setting) (history : List Happening) (n : NodeState)
     (st : Stands setting history n.seat.net n.seat.number n) (which : ℕ) (s : Sent)
@@ -130,7 +128,7 @@ module _ (A : Type 0) (laws : HearingLaws) (setting : Setting) (history : List H
         → IsTimely setting old (Takes which)
     in_time free x is =
         subst (λ (y : Sent). (setting.ours y.to ≡ true) × (is_fresh old.made y ≡ true)
-        × MakesInTime setting old y.to y.from y.packet) (some_same s x (sym was_sent ∙ is)) (
+        × MakesInTime setting old y.to y.from y.packet) (same_Some s x (sym was_sent ∙ is)) (
           (λ i. st.ours i (to_it i)) ∙ its_own A setting history n st,
           fresh,
           λ id made. subst (λ (a : Address). NoneNames old a id) (sym to_it)

@@ -34,6 +34,7 @@ use Rattle.at_adsp_ends.specs.Receiving.{any_request_came, opening_came, part_ca
 use Rattle.at_adsp_ends.specs.Tables.{Done, EndTable, by_id, by_remote, freed, has_id, moved, next_id, stayed}
 use Rattle.at_adsp.specs.Network.{Made, is_end}
 use Rattle.at_adsp.specs.Streams.{has_number}
+use Rattle.at_ddp.proofs.TableLemmas.{found_too}
 
 pub ok_same : {X : Type 0} (x y : X) → ◌≡◌ {A = Result X StreamFault} (Ok x) (Ok y) → x ≡ y
 ok_same x y h = cc
@@ -45,18 +46,6 @@ found_id t id e is = (all_found (λ (x : EndState). Unit {0}) (has_id id) t.ends
     each : (es : List EndState) → AllByRecursion (λ (x : EndState). Unit {0}) es
     each [] = tt
     each (x ∷ es) = (tt, each es)
-
--- what one test finds, another that it passes finds too, or something before it
-found_too : {X : Type 0} (p q : X → Bool) (x : X) (xs : List X) → find q xs ≡ Some x → p x ≡ true → (o : X)
-    × (find p xs ≡ Some o)
-found_too p q x [] is passes = absurd (cc)
-found_too {X} p q x (z ∷ zs) is passes = go (λ f. found_too p q x zs f passes) (p z) refl (q z) is
-  where
-    go : (find q zs ≡ Some x → (o : X) × (find p zs ≡ Some o)) → (a : Bool) → p z ≡ a → (b : Bool)
-        → cond b (Some z) (find q zs) ≡ Some x → (o : X) × (find p (z ∷ zs) ≡ Some o)
-    go ih true e b f = (z, ap (λ c. cond c (Some z) (find p zs)) e)
-    go ih false e true f = let same : z ≡ x = cc in absurd (true≢false (sym passes ∙ ap p (sym same) ∙ e))
-    go ih false e false f = let more = ih f in (more.0, ap (λ c. cond c (Some z) (find p zs)) e ∙ more.1)
 
 pub find_mapped : (at : Address) (id : ℕ) (made : List Made) (m : Made) → find (is_end at id) made ≡ Some m
     → find (has_number at id) (map (λ (x : Made). x.stream) made) ≡ Some m.stream

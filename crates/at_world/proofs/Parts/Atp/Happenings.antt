@@ -31,12 +31,12 @@ use Rattle.at_setup.specs.declared.event.Event.{Event}
 use Rattle.at_setup.specs.declared.event.Event.TheVariants as event
 use Rattle.at_world.proofs.CableTie.{CableTie, SeatTie, seat_kept}
 use Rattle.at_world.proofs.Parts.Atp.Coming.{Comes}
-use Rattle.at_world.proofs.Parts.Atp.Lists.{some_transaction}
 use Rattle.at_world.proofs.Parts.Atp.OnWire.{unwired}
 use Rattle.at_world.proofs.Parts.Atp.Places.{requester_here, service_here, served_here}
 use Rattle.at_world.proofs.Parts.Atp.Steps.{step_becomes, pass_becomes}
 use Rattle.at_world.proofs.Parts.Atp.Tie.{Laws, AtpTie, Good, IsReading, good_next}
 use Rattle.at_world.proofs.Parts.Atp.Times.{none_holds}
+use Rattle.std.proofs.lemmas.Option.{same_Some}
 
 -- at a report of another protocol a moment passes
 moment_passes : (A : Type 0) (c : Cable) (m : AtpMachine) (e : Event A) (r : Report A) (k : Speaker) → is_atp k ≡ false
@@ -67,7 +67,7 @@ module _ (A : Type 0) (laws : Laws A) (w : WorldState) (c : Cable) (m : AtpMachi
       let r = subst (IsReading c m k) reads (t.readings k y is) in
       let it = unwired m.asked (asking c.net k) read.tid one
       (sym (ap (λ ts. atp.transaction_of ts (asking c.net k) read.tid) t.asked) ∙ newest) in
-      let same = some_transaction it.0 (r.first).transaction (sym it.1 ∙ (r.first).newest) in
+      let same = same_Some it.0 (r.first).transaction (sym it.1 ∙ (r.first).newest) in
       ap (λ (x : atp.Transaction). x.xo) it.2 ∙ ap (λ (x : Transaction). x.xo) same ∙ r.xo
 
   stands_there : Stands A t.history n.seat.net n.seat.number n

@@ -10,9 +10,7 @@ use Rattle.at_ddp.proofs.Octets.{same_address-true}
 use Rattle.at_atp_frame.specs.Packets.{Packet}
 use Rattle.at_world.specs.Machine.AtpGuards.{Reading, reading_of, without_reading}
 use Rattle.at_world.specs.Transactions.{Transaction, is_transaction, transaction_of, answered}
-
-pub some_transaction : (a b : Transaction) → Some a ≡ Some b → a ≡ b
-some_transaction a b h = cc
+use Rattle.std.proofs.lemmas.Option.{same_Some}
 
 -- a transaction with one answer more
 abbrev pub with_answer : Transaction → List Packet → Transaction
@@ -49,7 +47,7 @@ answer_joins (t ∷ ts) from tid packets who k u is = go (λ g. answer_joins ts 
         (v : Transaction) × (transaction_of (cond b (with_answer t packets ∷ ts) (t ∷ answered ts from tid packets))
         who k ≡ Some v) × Becomes from tid packets who k u v
     go later true true d e g =
-        let same : t ≡ u = some_transaction t u g in
+        let same : t ≡ u = same_Some t u g in
         let number = same_number t from who tid k d e in (
           with_answer t packets,
           ap (λ x. cond x (Some (with_answer t packets)) (transaction_of ts who k)) e,
@@ -77,7 +75,7 @@ answer_joins_own (x ∷ ts) from tid packets t is =
         transaction_of (cond b (with_answer x packets ∷ ts) (x ∷ answered ts from tid packets)) from tid
         ≡ Some (with_answer t packets)
     go later true e g = ap (λ c. cond c (Some (with_answer x packets)) (transaction_of ts from tid)) e
-        ∙ ap (λ y. Some (with_answer y packets)) (some_transaction x t g)
+        ∙ ap (λ y. Some (with_answer y packets)) (same_Some x t g)
     go later false e g = ap (λ c. cond c (Some x) (transaction_of (answered ts from tid packets) from tid)) e ∙ later g
 
 -- the end of a reading leaves the others

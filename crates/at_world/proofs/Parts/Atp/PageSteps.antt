@@ -19,9 +19,10 @@ use Rattle.at_transaction_socket.specs.TransactionSockets.{asking}
 use Rattle.at_zone_socket.specs.ZoneSocket.{page_packet}
 use Rattle.at_world.specs.Machine.AtpGuards.{Reading}
 use Rattle.at_world.specs.Transactions.{Transaction}
-use Rattle.at_world.proofs.Parts.Atp.Lists.{only_packet, some_transaction}
+use Rattle.at_world.proofs.Parts.Atp.Lists.{only_packet}
 use Rattle.at_world.proofs.Parts.Atp.OnWire.{wired, asked_unwired}
 use Rattle.at_world.proofs.Parts.Atp.Readings.{ReadingLaws, tables_at, HasStood, PageAt, Reads}
+use Rattle.std.proofs.lemmas.Option.{same_Some}
 
 module _ (laws : ReadingLaws) (net : ℕ) (router : Option ℕ) (past : List Tables) (asked : List Transaction)
     (readings : List Reading) (k : ℕ) (read : ZoneReading) (r : Reads net router past asked readings k read)
@@ -31,7 +32,7 @@ module _ (laws : ReadingLaws) (net : ℕ) (router : Option ℕ) (past : List Tab
   one =
       let mine = asked_unwired asked (asking net k) read.tid from newest in
       mine.1
-      ∙ ap wired (some_transaction (mine.0).transaction (r.first).transaction (sym (mine.0).newest ∙ (r.first).newest))
+      ∙ ap wired (same_Some (mine.0).transaction (r.first).transaction (sym (mine.0).newest ∙ (r.first).newest))
 
   pub comes_from_router : from ≡ zones_at net r.server
   comes_from_router = sym newest.asked_it ∙ ap (λ (t : atp.Transaction). t.responder) one ∙ (r.first).asked_it

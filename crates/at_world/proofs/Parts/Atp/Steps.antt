@@ -36,7 +36,6 @@ use Rattle.at_setup.specs.declared.event.Event.{Event}
 use Rattle.at_setup.specs.declared.event.Event.TheVariants as event
 use Rattle.at_world.proofs.Acts.{called_at, delivered_at}
 use Rattle.at_world.proofs.CableTie.{Wire}
-use Rattle.at_world.proofs.Parts.Atp.Lists.{some_transaction}
 use Rattle.at_world.proofs.Parts.Atp.OnWire.{wired, answered_ask_well, answered_wired, asked_unwired, asks_service}
 use Rattle.at_world.proofs.Parts.Atp.OnWire.{is_response, newest_asks_well, unwired}
 use Rattle.at_world.proofs.Parts.Atp.Readings.{all_stays, drawn_stays, joined_stays, may_ask}
@@ -45,6 +44,7 @@ use Rattle.at_world.proofs.Parts.Atp.Staying.{Allows, so_at, plainly, plain_sets
 use Rattle.at_world.proofs.Parts.Atp.Staying.{nothing_asked}
 use Rattle.at_world.proofs.Parts.Atp.Staying.{still_theirs, StaysMine}
 use Rattle.at_world.proofs.Parts.Atp.ReadingSteps.{fails_step, reading_ends_step, reads_step, turns_step}
+use Rattle.std.proofs.lemmas.Option.{same_Some}
 
 module _ (A : Type 0) (laws : Laws A) (w : WorldState) (cable : Cable) (m : AtpMachine) (wires : List Wire)
     (e : Event A) (n x : NodeState) (r : Report A) (t : AtpTie A w cable wires m)
@@ -184,7 +184,7 @@ module _ (A : Type 0) (laws : Laws A) (w : WorldState) (cable : Cable) (m : AtpM
           ≡ zones_at cable.net server → (which : TableChoice) × (start : ℕ) × MayAskFor u.asks which start
           × (s.packets ≡ page_answer (table_of which m.tables) start)
       elsewhere server u is here =
-          let one = some_transaction (mine.0).transaction u (sym (mine.0).newest ∙ is) in
+          let one = same_Some (mine.0).transaction u (sym (mine.0).newest ∙ is) in
           let wrong : 129 ≡ 6 = ap (λ (y : Address). y.socket)
           (sym (mine.0).asked_it ∙ ap (λ (y : Transaction). y.responder) one ∙ here) in
           absurd (omega (arith, wrong))
@@ -248,7 +248,7 @@ module _ (A : Type 0) (laws : Laws A) (w : WorldState) (cable : Cable) (m : AtpM
           ≡ zones_at cable.net server → (which : TableChoice) × (start : ℕ) × MayAskFor u.asks which start
           × (page_answer table s.start ≡ page_answer (table_of which m.tables) start)
       page server u is here =
-          let one = some_transaction (mine.0).transaction u (sym (mine.0).newest ∙ is) in
+          let one = same_Some (mine.0).transaction u (sym (mine.0).newest ∙ is) in
           (s.table, s.start, subst (λ (y : Transaction). MayAskFor y.asks s.table s.start) one may, refl)
 
   -- ---- beginnings

@@ -18,9 +18,7 @@ use Rattle.at_nodes.specs.Nodes.{is_numbered}
 use Rattle.at_world.specs.Worlds.{WorldState, node_at}
 use Rattle.at_world.proofs.CableTie.{Wire}
 use Rattle.at_world.proofs.Parts.Streams.Tie.{HasEnds, StreamLaws, StreamTie, is_nodes_socket}
-
-some_same : (a b : NodeState) → Some a ≡ Some b → a ≡ b
-some_same a b h = cc
+use Rattle.std.proofs.lemmas.Option.{same_Some}
 
 -- what holds of no node holds of none that is found
 none_found : (p : NodeState → Bool) (j : ℕ) (nodes : List NodeState) (n : NodeState) → list_any p nodes ≡ false
@@ -31,7 +29,7 @@ none_found p j (x ∷ xs) n none is = go (λ h g. none_found p j xs n h g) (p x)
     go : (list_any p xs ≡ false → find (is_numbered j) xs ≡ Some n → p n ≡ false) → (b d : Bool) → p x ≡ b
         → (b || list_any p xs) ≡ false → cond d (Some x) (find (is_numbered j) xs) ≡ Some n → p n ≡ false
     go ih true d e h g = absurd (cc)
-    go ih false true e h g = ap p (sym (some_same x n g)) ∙ e
+    go ih false true e h g = ap p (sym (same_Some x n g)) ∙ e
     go ih false false e h g = ih h g
 
 no_ends_name : (t : EndTable) (r : Remote) → t.ends ≡ [] → by_remote t r ≡ None

@@ -2,9 +2,9 @@ use Rattle.std.proofs.Common.{rules, ◌≡◌, true, List, Some, refl, sym, ◌
 use Rattle.at_atp_frame.specs.Packets.{Packet}
 use Rattle.at_atp_requester.specs.Answers.{is_wanted, whole, with_part}
 use Rattle.at_atp_requester.specs.Arriving.{arrival_of}
-use Rattle.at_atp_requester.proofs.AnswerLemmas.{some_of}
 use Rattle.at_atp_requester.proofs.StepLemmas.{effect_finished}
 use Rattle.at_atp_requester.proofs.transaction.Transaction.hear.Goals as goal
+use Rattle.at_ddp.proofs.CaseLemmas.{some_of}
 
 pub returns-then-completes-clause-ok : goal.returns-then-completes-clause-ok
 returns-then-completes-clause-ok g c =

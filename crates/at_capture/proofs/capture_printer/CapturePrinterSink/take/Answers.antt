@@ -1,6 +1,5 @@
 use Rattle.std.proofs.Common.{refl, subst}
 use Rattle.at_capture.proofs.AskedLemmas.{recalls_same}
-use Rattle.at_capture.proofs.CaptureLemmas.{on_error}
 use Rattle.at_capture.proofs.TallyLemmas.{next_number, one_longer}
 use Rattle.at_capture.specs.Captures.{IsUnprinted}
 use Rattle.at_capture.specs.Frames.{Content, frame_of}
@@ -8,6 +7,7 @@ use Rattle.at_capture.specs.Roles.{IsRole, PlaysRole}
 use Rattle.at_capture.specs.Texts.{FrameText}
 use Rattle.at_pcap.specs.Frames.{frame_with}
 use Rattle.at_capture.proofs.capture_printer.CapturePrinterSink.take.Goals as goal
+use Rattle.at_ddp.proofs.CaseLemmas.{on_err}
 
 pub returns-clause-ok : goal.returns-clause-ok
 returns-clause-ok g c frames verdicts has =
@@ -40,7 +40,7 @@ pub returns-in_err-answered-clause-err : goal.returns-in_err-answered-clause-err
 returns-in_err-answered-clause-err g c =
     let old = c.args.self.now in
     let now = c.take_role.new.asked in
-    on_error _ (IsUnprinted old (record old { asked = now })) (record {
+    on_err _ (IsUnprinted old (record old { asked = now })) (record {
       printer = refl;
       diagnostics = refl;
       counts = λ frames verdicts has. record {

@@ -12,9 +12,9 @@ use Rattle.at_drive.specs.Drives.{Driven, Logged, logged, number_of}
 use Rattle.at_drive.specs.Logs.{news_of}
 use Rattle.at_drive.specs.Steps.{stands_in}
 use Rattle.at_drive.proofs.NodeLemmas.{found_in, numbers_stay}
-use Rattle.at_drive.proofs.PlayLemmas.{on_err}
 use Rattle.at_drive.proofs.SafetyLemmas.{SafetyLaws, one_within, taken_safely}
 use Rattle.at_drive.proofs.stepping.Drive.play.Goals as goal
+use Rattle.at_ddp.proofs.CaseLemmas.{on_err}
 
 pub place_among-place-requires : goal.place_among-place-requires
 place_among-place-requires g c =

@@ -5,8 +5,9 @@ use Rattle.at_nbp.specs.Replies.{AreReplies, matching, pattern_of}
 use Rattle.at_nbp.specs.Tuples.{Entry, content}
 use Rattle.at_nbp.specs.declared.name.Name.{Name}
 use Rattle.at_name_socket.specs.NameSockets.{SocketState}
-use Rattle.at_name_socket.proofs.OwedLemmas.{answers_some, on_err}
+use Rattle.at_name_socket.proofs.OwedLemmas.{answers_some}
 use Rattle.at_name_socket.proofs.socket.NameSocket.answer.Goals as goal
+use Rattle.at_ddp.proofs.CaseLemmas.{on_err}
 
 pub name-requires : goal.name-requires
 name-requires g c = λ k d lt. (c.only-tuple.ensures.lawful.each k d lt).fits

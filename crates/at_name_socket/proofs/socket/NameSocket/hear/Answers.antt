@@ -3,8 +3,8 @@ use Rattle.std.proofs.lemmas.Bool.{false≢true}
 use Rattle.at_nbp.specs.Packets.{packet_content}
 use Rattle.at_name_socket.specs.NameSockets.{Takes}
 use Rattle.at_name_socket.proofs.OwedLemmas.{SomeStep, keeps_some, owed, relays_some}
-use Rattle.at_name_socket.proofs.SocketLemmas.{sends_nothing}
 use Rattle.at_name_socket.proofs.socket.NameSocket.hear.Goals as goal
+use Rattle.at_ddp.proofs.OutboxLemmas.{sends_nothing}
 
 pub returns-in_ok-heard-in-Reply-clause-ok : goal.returns-in_ok-heard-in-Reply-clause-ok
 returns-in_ok-heard-in-Reply-clause-ok g c = (

@@ -3,8 +3,9 @@ use Rattle.std.specs.Prelude.{All}
 use Rattle.at_nbp.specs.Tuples.{FitsStrings, content}
 use Rattle.at_nbp.specs.declared.tuple.Tuple.{Tuple}
 use Rattle.at_nbp.specs.Replies.{matching}
-use Rattle.at_nbp.proofs.ReplyExistence.{owed, replies_exist}
+use Rattle.at_nbp.proofs.ReplyExistence.{replies_exist}
 use Rattle.at_nbp.proofs.names.Names.answer.Goals as goal
+use Rattle.at_ddp.proofs.CaseLemmas.{on_err}
 
 pub send_replies-requires-clause-short : goal.send_replies-requires-clause-short
 send_replies-requires-clause-short g c = subst (λ (l : List Tuple). All FitsStrings (map content l))
@@ -16,8 +17,8 @@ send_replies-requires-clause-few g c =
 
 pub returns-in_err-found-clause-owed : goal.returns-in_err-found-clause-owed
 returns-in_err-found-clause-owed g c =
-    owed _ _ (replies_exist (matching c.args.self.now c.args.pattern.now) c.count_matching-count.ensures.short)
+    on_err _ _ (replies_exist (matching c.args.self.now c.args.pattern.now) c.count_matching-count.ensures.short)
 
 pub returns-in_err-send_replies-clause-owed : goal.returns-in_err-send_replies-clause-owed
 returns-in_err-send_replies-clause-owed g c =
-    owed _ _ (replies_exist (matching c.args.self.now c.args.pattern.now) c.count_matching-count.ensures.short)
+    on_err _ _ (replies_exist (matching c.args.self.now c.args.pattern.now) c.count_matching-count.ensures.short)

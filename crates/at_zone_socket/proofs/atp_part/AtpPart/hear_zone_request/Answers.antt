@@ -9,8 +9,9 @@ use Rattle.at_zone_socket.specs.AtpParts.{AtpState, with_zones}
 use Rattle.at_zone_socket.specs.ZoneSocket.{AtZones}
 use Rattle.at_zone_socket.proofs.FaultLemmas.{atp_number}
 use Rattle.at_zone_socket.proofs.Opened.{opened}
-use Rattle.at_zone_socket.proofs.ResponderLemmas.{for_no_router, none_of, router_fault, router_packet, some_of}
+use Rattle.at_zone_socket.proofs.ResponderLemmas.{for_no_router, router_fault, router_packet}
 use Rattle.at_zone_socket.proofs.atp_part.AtpPart.hear_zone_request.Goals as goal
+use Rattle.at_ddp.proofs.CaseLemmas.{some_of, none_of}
 
 pub returns-then-not-is_router-clause-comes : goal.returns-then-not-is_router-clause-comes
 returns-then-not-is_router-clause-comes g c = λ said.
