@@ -3,6 +3,7 @@
 
 mod command;
 mod ending;
+pub mod laws;
 mod playing;
 mod playing_events;
 mod playing_held;

@@ -12,13 +12,13 @@ ghost use Rattle.at_setup.specs.declared.setup.Setup.{Setup as Said};
 ghost use Rattle.at_world.specs.Plays.{opening_world};
 
 use crate::ending::Ending;
+use crate::laws::plays_obey;
 use crate::sent::write_sent;
 use at_diagnostics::{Diagnostics, Stop};
 use at_faults::{Fault, LineFault, Unreadable};
 use at_print::{Paper, Printer, write_event};
 use at_schedule::laws::first_line;
 use at_schedule::{Draft, read_line};
-use at_world::laws::{at_most_16_nodes_stand, exactly_once_requests_run_once, steps_are_a_run};
 use at_world::{Event, Setup, World};
 use std::alloc::Allocator;
 use std::io::{BufRead, BufReader, Read};
@@ -37,9 +37,7 @@ pub(crate) fn play_lines<A: Allocator + Copy, R: Read, W: Paper, E: Paper>(
         × TellsReports E.page 0 p.reports diagnostics.old diagnostics.new }
     ensures unwritten { IsUnwritten result → HasFailed printer.new }
 {
-    at_most_16_nodes_stand::<A>();
-    steps_are_a_run::<A>();
-    exactly_once_requests_run_once::<A>();
+    plays_obey::<A>();
     play_all(alloc, setup, reader, printer, diagnostics)
 }
 

@@ -9,12 +9,12 @@ ghost use Rattle.at_setup.specs.declared.setup.Setup.{Setup as Said};
 ghost use Rattle.at_world.specs.Plays.{opening_world};
 
 use crate::ending::Ending;
+use crate::laws::plays_obey;
 use crate::playing::play_line;
 use at_diagnostics::{Diagnostics, Stop};
 use at_print::{Paper, Printer};
 use at_schedule::laws::setup_comes_first;
 use at_schedule::{Draft, cut_line};
-use at_world::laws::{at_most_16_nodes_stand, exactly_once_requests_run_once, steps_are_a_run};
 use at_world::{Setup, World};
 use std::alloc::Allocator;
 
@@ -33,9 +33,7 @@ pub(crate) fn play_bytes<A: Allocator + Copy, W: Paper, E: Paper>(
         × TellsReports E.page 0 p.reports diagnostics.old diagnostics.new }
     ensures unwritten { IsUnwritten result → HasFailed printer.new }
 {
-    at_most_16_nodes_stand::<A>();
-    steps_are_a_run::<A>();
-    exactly_once_requests_run_once::<A>();
+    plays_obey::<A>();
     play_each(alloc, setup, text, printer, diagnostics)
 }
 

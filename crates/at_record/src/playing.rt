@@ -16,10 +16,10 @@ ghost use Rattle.at_world.specs.Sents.{SentDatagram};
 use crate::records::write_records;
 use at_diagnostics::{Diagnostics, Stop};
 use at_faults::{Fault, LineFault, Unreadable};
+use at_play::laws::plays_obey;
 use at_print::{Paper, Printer};
 use at_schedule::laws::setup_comes_first;
 use at_schedule::{Draft, cut_line};
-use at_world::laws::{at_most_16_nodes_stand, exactly_once_requests_run_once, steps_are_a_run};
 use at_world::{Event, Setup, World};
 use std::alloc::Allocator;
 
@@ -39,9 +39,7 @@ pub(crate) fn record_events<A: Allocator + Copy, W: Paper, E: Paper>(
         × Obeys setup.now events.played × AreSendings sent
         × Prints W.page printer.old printer.new (records_text sent) }
 {
-    at_most_16_nodes_stand::<A>();
-    steps_are_a_run::<A>();
-    exactly_once_requests_run_once::<A>();
+    plays_obey::<A>();
     record_each(alloc, setup, text, printer, diagnostics)
 }
 

@@ -1,32 +1,9 @@
-use Rattle.at_world.specs.Plays.{opening_world}
-use Rattle.at_play.proofs.ToldLemmas.{follows_told, safely_told}
 use Rattle.at_play.proofs.playing_text.play_bytes.Goals as goal
 
 pub returns : goal.returns
 returns g c =
-    let A = g.row.A.Denot in
-    let setup = c.args.setup.now in
     let told = c.play_each.ensures.told in
-    let p = told.0 in
-    let follows = follows_told A (opening_world setup) p.events p.reports p.world p.text p.told in
-    let few = c.at_most_16_nodes_stand.ensures setup c.requires.lawful in
     record {
-      told = (
-        p,
-        record {
-          lawful = c.requires.lawful;
-          safe = safely_told A (opening_world setup) p.events p.reports p.world p.text few p.told;
-          run = λ honest.
-              c.steps_are_a_run.ensures.machine setup p.events p.reports p.world c.requires.lawful honest follows;
-          agrees = λ honest.
-              c.steps_are_a_run.ensures.agrees setup p.events p.reports p.world c.requires.lawful honest follows;
-          once = λ honest.
-              c.exactly_once_requests_run_once.ensures setup p.events p.reports p.world c.requires.lawful honest
-              follows;
-        },
-        told.1,
-        told.2,
-        told.3,
-      );
+      told = (told.0, c.plays_obey.ensures c.args.setup.now c.requires.lawful told.0, told.1, told.2, told.3);
       unwritten = c.play_each.ensures.unwritten;
     }
