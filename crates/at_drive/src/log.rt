@@ -47,16 +47,16 @@ impl<A: Allocator + Copy> Log<A> {
         }
     }
 
-    // An empty list for what a step sends, in the room of one that was cleared, if there is one.
-    pub(crate) fn empty_list(&mut self, alloc: A) -> Outbox<A>
+    // An empty outbox for what a step sends, in the room of one that was cleared, if there is one.
+    pub(crate) fn empty_outbox(&mut self, alloc: A) -> Outbox<A>
         ensures list { result.items ≡ [] }
         ensures log { logged self.new ≡ logged self.old }
     {
         match self.past_sent.pop() {
             None => Outbox::new(alloc),
-            Some(mut list) => {
-                list.clear();
-                list
+            Some(mut out) => {
+                out.clear();
+                out
             }
         }
     }

@@ -233,7 +233,7 @@ impl<A: Allocator + Copy> Drive<A> {
         ensures failed { self.new.failed ≡ self.old.failed }
     {
         every_event_is_safe::<A>();
-        let mut out = log.empty_list(self.alloc);
+        let mut out = log.empty_outbox(self.alloc);
         log.reserve()?;
         let place = place_among(&self.nodes, number);
         let report = take(&mut self.nodes[place], input, &mut out);

@@ -13,7 +13,7 @@ use at_transaction_socket::refused;
 use std::alloc::Allocator;
 
 impl<A: Allocator + Copy> Node<A> {
-    /// Takes received bytes. What the node sends goes to the end of the list. A new request for the service is
+    /// Takes received bytes. What the node sends goes to the end of the outbox. A new request for the service is
     /// delivered to it.
     pub fn receive<S: Service<A>>(
         &mut self,

@@ -96,7 +96,7 @@ impl<A: Allocator + Copy> Node<A> {
         self.seat.net
     }
 
-    /// Plays a call by the node's user. What the node sends goes to the end of the list.
+    /// Plays a call by the node's user. What the node sends goes to the end of the outbox.
     pub fn call(&mut self, call: &Call<A>, out: &mut Outbox<A>) -> Report<A>
         ensures { IsStep (called self.old call.now) self.old out.old.items result self.new out.new.items }
     {
@@ -109,7 +109,7 @@ impl<A: Allocator + Copy> Node<A> {
         }
     }
 
-    /// Plays a timer that fires. What the node sends goes to the end of the list.
+    /// Plays a timer that fires. What the node sends goes to the end of the outbox.
     pub fn timer(&mut self, timer: Timer, out: &mut Outbox<A>) -> Report<A>
         ensures { IsStep (timed self.old timer) self.old out.old.items result self.new out.new.items }
     {

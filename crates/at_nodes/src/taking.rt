@@ -9,7 +9,7 @@ use at_node::laws::a_node_keeps_its_seat;
 use at_node::{Input, Node};
 use std::alloc::Allocator;
 
-/// A node takes an input. What it sends goes to the end of the list. It keeps its seat and its limits.
+/// A node takes an input. What it sends goes to the end of the outbox. It keeps its seat and its limits.
 /// Its service leaves every answer for later.
 pub fn take<A: Allocator + Copy>(
     node: &mut Node<A>,

@@ -42,7 +42,7 @@ impl<A: Allocator + Copy> Log<A> {
         self.sent
     }
 
-    /// Records what a node drew and sent at an event. The list is empty then. If memory runs out, the log has failed.
+    /// Records what a node drew and sent at an event, and empties the outbox. If memory runs out, the log has failed.
     pub(crate) fn record(
         &mut self,
         node: u8,

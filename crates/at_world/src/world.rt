@@ -32,7 +32,7 @@ const MAX_DATAGRAMS: usize = 868_928;
 #[derive(Drop)]
 pub struct World<A: Allocator> {
     nodes: Vec<Node<A>, A>,
-    // An empty list, whose room is used again by each event.
+    // Empty, so that each event uses its room again.
     out: Outbox<A>,
     pub(crate) log: Log<A>,
 }
@@ -161,7 +161,7 @@ impl<A: Allocator + Copy> World<A> {
         Ok(report)
     }
 
-    // The bytes that come stay where they lie, since what the node sends goes to a list of its own first.
+    // The bytes that come stay where they lie, since what the node sends goes to the outbox first.
     fn deliver(&mut self, datagram: u64, node: u8) -> Result<Report<A>, EventFault>
         requires whole { self.old.failed ≡ false }
         requires runs { is_over self.old ≡ false }

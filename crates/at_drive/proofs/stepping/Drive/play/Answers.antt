@@ -48,7 +48,7 @@ pub returns-in_err-reserve-2-clause-stopped : goal.returns-in_err-reserve-2-clau
 returns-in_err-reserve-2-clause-stopped g c =
     on_err c.from_residual-in_err-reserve-2.result _
     (ap (λ f. record (logged {A = g.row.A.Denot} c.reserve.new.self) { faults = f }) c.reserve-2.ensures.items
-    ∙ c.reserve.ensures.log ∙ c.empty_list-out.ensures.log)
+    ∙ c.reserve.ensures.log ∙ c.empty_outbox-out.ensures.log)
 
 pub returns-in_err-reserve-2-clause-numbers : goal.returns-in_err-reserve-2-clause-numbers
 returns-in_err-reserve-2-clause-numbers g c =
@@ -72,8 +72,8 @@ returns-clause-driven g c =
     let notes : List ℕ = c.send_all.ensures.0 in
     let view = c.self.view_is in
     let before : logged {A = g.row.A.Denot} c.reserve.new.self ≡ logged c.args.log.now = c.reserve.ensures.log
-    ∙ c.empty_list-out.ensures.log in
-    let takes = subst (λ l. Takes c.args.input.now node l report after out.items) c.empty_list-out.ensures.list
+    ∙ c.empty_outbox-out.ensures.log in
+    let takes = subst (λ l. Takes c.args.input.now node l report after out.items) c.empty_outbox-out.ensures.list
     c.take-report.ensures.takes in
     let stands = ap (λ (d : Driven). find (is_numbered c.args.number) d.nodes) (sym view) ∙ place.first
     ∙ ap Some (sym (c.index_mut.ensures.value ∙ place.at node)) in
