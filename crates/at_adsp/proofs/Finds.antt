@@ -1,6 +1,6 @@
 -- What is found in a list of which one entry is replaced.
 use Rattle.std.proofs.Common.{◌≡◌, Bool, true, false, cond, List, [], ◌∷◌, Some, None, refl, sym, ap, subst, ◌∙◌}
-use Rattle.std.specs.Prelude.{find, map, ◌&&◌, ◌||◌}
+use Rattle.std.specs.Prelude.{find, ◌&&◌, ◌||◌}
 use Rattle.std.specs.List.{list_all, list_any}
 use Rattle.std.proofs.lemmas.Bool.{true≢false}
 use Rattle.at_ddp.specs.Tables.{replaced}
@@ -76,14 +76,3 @@ replaced_found {X} p x y (z ∷ zs) is passes = go (λ f. replaced_found p x y z
         ≡ Some x → find p (cond b (y ∷ zs) (z ∷ replaced p y zs)) ≡ Some y
     go ih true e f = ap (λ c. cond c (Some y) (find p zs)) passes
     go ih false e f = ap (λ c. cond c (Some z) (find p (replaced p y zs))) e ∙ ih f
-
--- what is seen of each entry stays, where that of the new one is the same
-pub map_same : {X Y : Type 0} (f : X → Y) (p : X → Bool) (x y : X) (xs : List X) → f y ≡ f x → find p xs ≡ Some x
-    → map f (replaced p y xs) ≡ map f xs
-map_same f p x y [] same is = refl
-map_same {X} {Y} f p x y (z ∷ zs) same is = go (λ g. map_same f p x y zs same g) (p z) is
-  where
-    go : (find p zs ≡ Some x → map f (replaced p y zs) ≡ map f zs) → (b : Bool) → cond b (Some z) (find p zs) ≡ Some x
-        → map f (cond b (y ∷ zs) (z ∷ replaced p y zs)) ≡ f z ∷ map f zs
-    go ih true g = ap (λ v. v ∷ map f zs) (same ∙ ap f (sym (same_Some z x g)))
-    go ih false g = ap (λ l. f z ∷ l) (ih g)

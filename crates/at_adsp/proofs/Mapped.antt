@@ -61,9 +61,3 @@ pub get_mapped : {X Y : Type 0} (f : X → Y) (xs : List X) (i : ℕ) → slice_
 get_mapped f [] i = refl
 get_mapped f (x ∷ xs) zero = refl
 get_mapped f (x ∷ xs) (suc i) = get_mapped f xs i
-
--- two ways of seeing, one after the other
-pub map_mapped : {X Y Z : Type 0} (f : X → Y) (g : Y → Z) (h : X → Z) → ((x : X) → g (f x) ≡ h x) → (xs : List X)
-    → map g (map f xs) ≡ map h xs
-map_mapped f g h same [] = refl
-map_mapped f g h same (x ∷ xs) = λ i. same x i ∷ map_mapped f g h same xs i

@@ -1,5 +1,5 @@
 -- The items of a segment that are not received yet.
-use Rattle.std.proofs.Common.{◌≡◌, ℕ, zero, suc, ◌+◌, ◌≤◌, Bool, true, false, List, [], ◌∷◌, length, drop, refl}
+use Rattle.std.proofs.Common.{◌≡◌, ℕ, zero, suc, ◌≤◌, Bool, List, [], ◌∷◌, length, drop, refl}
 use Rattle.std.proofs.Common.{arith}
 use Rattle.at_adsp_end.specs.Cuts.{items_in}
 
@@ -8,8 +8,3 @@ pub items_dropped : (end : Bool) (bytes : List ℕ) (d : ℕ) → d ≤ length b
 items_dropped end bytes zero h = refl
 items_dropped end [] (suc d) h = absurd (omega (arith, h))
 items_dropped end (b ∷ bytes) (suc d) h = items_dropped end bytes d (omega (arith, h))
-
-items_few : (end : Bool) (bytes : List ℕ) → length (items_in end bytes) ≤ length bytes + 1
-items_few true [] = omega arith
-items_few false [] = omega arith
-items_few end (b ∷ bytes) = let few = items_few end bytes in omega (arith, few)

@@ -2,7 +2,7 @@
 use Rattle.std.proofs.Common.{◌≡◌, ℕ, ◌+◌, ◌-◌, ◌≤◌, Bool, true, false, cond, List, [], ◌++◌, length, take, drop, refl}
 use Rattle.std.proofs.Common.{sym, ap, ◌∙◌, arith}
 use Rattle.std.proofs.Math.Seq.{take-add}
-use Rattle.std.proofs.lemmas.List.{drop-drop, drop-take, length-drop, length-take, take_min}
+use Rattle.std.proofs.lemmas.List.{drop-drop, drop-take, length-drop}
 use Rattle.at_adsp_end.specs.Ends.{Sender}
 use Rattle.at_adsp_end.specs.Sending.{going, sent_on}
 use Rattle.at_adsp_end.specs.declared.item.Item.{Item}

@@ -1,12 +1,10 @@
 -- What is sent, one after the other.
 use Rattle.std.proofs.Common.{◌≡◌, ℕ, List, [], ◌∷◌, ◌++◌, append_assoc, refl, sym, ap}
 use Rattle.std.proofs.Common.{subst, ◌∙◌}
-use Rattle.std.specs.Prelude.{map}
-use Rattle.std.proofs.lemmas.List.{map-append}
 use Rattle.at_ddp.specs.Outbox.{Outbox}
-use Rattle.at_ddp.specs.Sending.{Sends, finished}
+use Rattle.at_ddp.specs.Sending.{Sends}
 use Rattle.at_ddp.specs.declared.address.Address.{Address}
-use Rattle.at_ddp.proofs.OutboxLemmas.{sends_later, sends_both}
+use Rattle.at_ddp.proofs.OutboxLemmas.{sends_both}
 use Rattle.at_adsp_frame.specs.Segments.{Content, spelled}
 use Rattle.at_adsp_end.specs.Cuts.{cut_now, pieces, numbered}
 use Rattle.at_adsp_end.specs.Ends.{EndState, SendsTo, addressed, spelled_all}
@@ -29,11 +27,6 @@ pub sends_to_both : (a b c : Outbox) (to : Address) (xs ys : List Content) → S
 sends_to_both a b c to xs ys s t =
     subst (Sends a c) (sym (spelled_both to xs ys))
     (sends_both a b c (spelled_all (addressed to xs)) (spelled_all (addressed to ys)) s t)
-
--- room was made, and then they were sent
-pub sends_to_later : (a b c : Outbox) (to : Address) (xs : List Content) → Sends a b [] → SendsTo b c to xs
-    → SendsTo a c to xs
-sends_to_later a b c to xs none some = sends_later a b c (spelled_all (addressed to xs)) none some
 
 -- ---- a list of items, one after the other
 

@@ -14,7 +14,7 @@ use Rattle.at_atp.specs.Network.{Network, Sent, Happening, Begins, Answers, Hear
 use Rattle.at_atp.specs.Network.{Retries, Other, begins, begun, turns, ending, number_after, answers, gives, hears}
 use Rattle.at_atp.specs.Network.{takes, takes_in, handed_up, serves, expires, retries, done, after}
 use Rattle.at_atp_frame.specs.Packets.{Packet, IsPacket}
-use Rattle.at_atp_responder.specs.Records.{Answered, Released, Record, is_key, is_kept}
+use Rattle.at_atp_responder.specs.Records.{Answered, Record, is_key, is_kept}
 use Rattle.at_atp_responder.specs.Records.{received, answer_fault, asked_for, asked_bitmap, after_answer, expiry_fault}
 use Rattle.at_atp_responder.specs.Records.{fit, record_fault}
 use Rattle.at_atp_requester.specs.Requests.{Retried, next_number, beginning, request_by, came}

@@ -1,6 +1,5 @@
 -- A word says one kind of call, so words that say none of that kind say no call. A row a protocol.
-use Rattle.std.proofs.Common.{◌≡◌, ℕ, List, Err, None, Result}
-use Rattle.std.specs.Prelude.{Option}
+use Rattle.std.proofs.Common.{◌≡◌, ℕ, List, Err, Result}
 use Rattle.at_event.specs.declared.Call.{Call}
 use Rattle.at_event.specs.declared.Call.TheVariants as call
 use Rattle.at_faults.specs.declared.fault.LineFault.{LineFault}
@@ -13,7 +12,6 @@ use Rattle.at_call_words.proofs.CallLemmas.Streams.{StreamsSaid, stream_kinds}
 use Rattle.at_call_words.proofs.CallLemmas.Transactions.{TransactionsSaid, transaction_kinds}
 use Rattle.at_call_words.proofs.CallLemmas.Zones.{ZonesSaid, zone_kinds}
 use Rattle.at_call_words.proofs.WordLemmas.{told_on}
-use Rattle.at_words.specs.Readings.{IsFound}
 pub mod Either
 pub mod Names
 pub mod Sessions

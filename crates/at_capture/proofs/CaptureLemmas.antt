@@ -1,7 +1,7 @@
 -- What is printed of the records of a capture, one after the other.
 use Rattle.std.proofs.Common.{◌≡◌, ◌⊎◌, inl, inr, ℕ, suc, List, [], ◌∷◌, ◌++◌, length, map, refl, sym, ap, subst}
 use Rattle.std.proofs.Common.{append_assoc, append-nil, Ok, Err, None, Some}
-use Rattle.std.specs.Prelude.{◌↔◌, IsOk, Option, Result, IfErr, OnErr, OnOk}
+use Rattle.std.specs.Prelude.{◌↔◌, IsOk, Option, Result, IfErr, OnOk}
 use Rattle.at_capture.specs.Captures.{Adds, HasFrames, HasPrinted, IsUnprinted, PrintsFrame, PrintsNext}
 use Rattle.at_capture.specs.Captures.{TellsCapture, diagnostics_of, printer_of}
 use Rattle.at_capture.specs.Endings.{TellsEnding, ending_line}

@@ -9,15 +9,6 @@ use Rattle.at_ddp.specs.declared.address.Address.{Address}
 pub sends_nothing : (o : Outbox) → Sends o o []
 sends_nothing o = record { items = sym (append-nil o.items); from = refl; kind = refl }
 
-pub sends_later : (before between after : Outbox) (sent : List (Address × List ℕ)) → Sends before between []
-    → Sends between after sent → Sends before after sent
-sends_later before between after sent none some = record {
-  items = some.items ∙ (λ i. (none.items ∙ append-nil before.items) i ++ map
-      (finished (none.from i) (none.kind i)) sent);
-  from = some.from ∙ none.from;
-  kind = some.kind ∙ none.kind;
-}
-
 pub sends_both : (a b c : Outbox) (xs ys : List (Address × List ℕ)) → Sends a b xs → Sends b c ys → Sends a c (xs ++ ys)
 sends_both a b c xs ys s t = record {
   items =

@@ -79,16 +79,6 @@ without_none p (x ∷ xs) h = go (λ g. without_none p xs g) (p x) refl h
     go ih true is g = absurd (cc)
     go ih false is g = rw is (ap (λ l. x ∷ l) (ih g))
 
--- nor put in its place
-pub replaced_none : {X : Type 0} (p : X → Bool) (y : X) (xs : List X) → find p xs ≡ None → replaced p y xs ≡ xs
-replaced_none p y [] h = refl
-replaced_none p y (x ∷ xs) h = go (λ g. replaced_none p y xs g) (p x) refl h
-  where
-    go : (find p xs ≡ None → replaced p y xs ≡ xs) → (b : Bool) → p x ≡ b → cond b (Some x) (find p xs) ≡ None
-        → replaced p y (x ∷ xs) ≡ x ∷ xs
-    go ih true is g = absurd (cc)
-    go ih false is g = rw is (ap (λ l. x ∷ l) (ih g))
-
 pub none_by : {X : Type 0} (p : X → Bool) (xs given : List X) (r : Option ℕ) → given ≡ xs → r ≡ position_from p 0 given
     → r ≡ None → find p xs ≡ None
 none_by p xs given r same is none = not_found p 0 xs (ap (position_from p 0) (sym same) ∙ sym is ∙ none)

@@ -1,10 +1,8 @@
 -- A drive is told one step further.
 use Rattle.std.proofs.Common.{◌≡◌, ℕ, suc, ◌+◌, List, [], ◌∷◌, ◌++◌, length}
-use Rattle.std.proofs.Common.{true, false, Ok, Err, refl, sym, ap, subst, ◌∙◌, append-nil, append_assoc, arith}
+use Rattle.std.proofs.Common.{refl, sym, ap, subst, ◌∙◌, append-nil, append_assoc, arith}
 use Rattle.std.proofs.Common.{map}
-use Rattle.std.specs.Prelude.{Result, Option, OnErr, OnOk}
-use Rattle.std.specs.Result.{is_err}
-use Rattle.std.proofs.lemmas.Bool.{true≢false}
+use Rattle.std.specs.Prelude.{Result, Option}
 use Rattle.at_cable.specs.declared.fault.CableFault.{CableFault}
 use Rattle.at_drive.specs.Drives.{Driven as Nodes, Drives, Logged, no_log, number_of as node_number}
 use Rattle.at_drive.specs.Drives.{opening_nodes_of, with_log}

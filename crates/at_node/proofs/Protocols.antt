@@ -8,15 +8,12 @@ use Rattle.at_event.specs.Kinds.{Speaker, Adsp, Atp, Nbp, Nobody}
 use Rattle.at_event.specs.Outcomes.{Outcome}
 use Rattle.at_event.specs.declared.Call.{Call}
 use Rattle.at_event.specs.declared.Call.TheVariants as protocol
-use Rattle.at_event.specs.declared.Report.{Report}
-use Rattle.at_event.specs.declared.Report.TheVariants as report
 use Rattle.at_event.specs.declared.Timer.{Timer}
 use Rattle.at_event.specs.declared.Timer.TheVariants as timer
 use Rattle.at_event.specs.declared.session.SessionCall.TheVariants.{Pick}
 use Rattle.at_event.specs.declared.service.Reply.{Reply}
 use Rattle.at_session.specs.Sessions.{SessionState, is_listed}
 use Rattle.at_packet.specs.Bodies.{IsBody}
-use Rattle.at_packet.specs.declared.Body.{Body}
 use Rattle.at_packet.specs.declared.Body.TheVariants as body
 use Rattle.at_node.specs.Nodes.{HearsBy, HearsMine, KeepsSeat, NodeState, called, speaker_of, timed}
 use Rattle.at_node.specs.Numbers.{draw_of, drawn_by}

@@ -4,7 +4,7 @@ use Rattle.std.proofs.Common.{◌∙◌, Some, drop_of_length-le}
 use Rattle.std.proofs.lemmas.List.{drop_more, take_more}
 use Rattle.std.proofs.lemmas.List.Elements.{All-push}
 use Rattle.std.proofs.lemmas.Option.{get_or_from_slice_get}
-use Rattle.std.specs.Prelude.{All, Option, slice_get}
+use Rattle.std.specs.Prelude.{Option, slice_get}
 use Rattle.at_pcap.specs.Captures.{record_bytes}
 use Rattle.at_pcap.specs.Readings.{records_bytes}
 use Rattle.at_pcap.specs.declared.order.Order.TheVariants.{Little}
