@@ -3,6 +3,7 @@ use Rattle.std.proofs.Common.{◌≡◌, ℕ, Bool, false, cond, [], ◌∷◌, 
 use Rattle.std.specs.Prelude.{◌==◌, ◌&&◌}
 use Rattle.std.specs.Map.{lookup}
 use Rattle.indexmap.specs.IndexMap.{insert_entry}
+use Rattle.at_node.specs.contracts.numbers.DrawPartialEq.TheImpl as equality
 use Rattle.at_node.specs.declared.numbers.Draw.{Draw}
 use Rattle.at_node.specs.declared.numbers.Draw.TheVariants.{Conn, Lookup, Tid}
 use Rattle.at_world.specs.Draws.{Draws, same_draw, is_number, last_of, drawn_at}
@@ -18,6 +19,20 @@ pub record TellsApart (eq : Draw → Draw → Bool) : Type 0 where
   pub lookup_conn : (a b : ℕ) → eq (Lookup a) (Conn b) ≡ false
   pub conn_tid : (a b : ℕ) → eq (Conn a) (Tid b) ≡ false
   pub conn_lookup : (a b : ℕ) → eq (Conn a) (Lookup b) ≡ false
+
+-- as the equality of the code does
+pub kinds_apart : TellsApart (equality.ghosts).eq
+kinds_apart = record {
+  tids = λ a b. refl;
+  lookups = λ a b. refl;
+  conns = λ a b. refl;
+  tid_lookup = λ a b. refl;
+  tid_conn = λ a b. refl;
+  lookup_tid = λ a b. refl;
+  lookup_conn = λ a b. refl;
+  conn_tid = λ a b. refl;
+  conn_lookup = λ a b. refl;
+}
 
 module _ (eq_node : ℕ → ℕ → Bool) (eq_draw : Draw → Draw → Bool) (nodes : (a b : ℕ) → eq_node a b ≡ (a == b))
     (tells : TellsApart eq_draw) where

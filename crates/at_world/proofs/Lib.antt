@@ -12,6 +12,7 @@ mod LawfulSetups
 mod LogLemmas
 mod Nodes
 mod NotedLemmas
+mod NotedLists
 mod Parts
 mod Runs
 mod SafetyLemmas

@@ -1,12 +1,10 @@
 -- What is timely in a world is timely in the network of its requesters and responders.
 use Rattle.std.proofs.Common.{◌≡◌, ℕ, ◌+◌, Bool, true, false, cond, List, [], ◌∷◌, ◌++◌, Option, Some, None, refl, sym}
-use Rattle.std.proofs.Common.{ap, subst, ◌∙◌}
-use Rattle.std.specs.Prelude.{find, nat_le, ◌==◌, ◌&&◌, ◌||◌, not}
+use Rattle.std.proofs.Common.{subst}
+use Rattle.std.specs.Prelude.{find, ◌==◌, not}
 use Rattle.std.specs.List.{AllByRecursion, list_all, list_any}
-use Rattle.std.proofs.lemmas.Bool.{and_parts, eqb-true, le-leb, or_parts}
-use Rattle.at_ddp.specs.Address.{same_address}
+use Rattle.std.proofs.lemmas.Bool.{or_parts}
 use Rattle.at_ddp.specs.declared.address.Address.{Address}
-use Rattle.at_ddp.proofs.Octets.{same_address-true}
 use Rattle.at_atp.specs.Network as network
 use Rattle.at_atp.specs.Network.{Drawn, NoneHolds}
 use Rattle.at_atp_responder.specs.Records.{Record}
@@ -18,45 +16,27 @@ use Rattle.at_node.specs.declared.numbers.Draw.TheVariants.{Conn, Lookup, Tid}
 use Rattle.at_steps.specs.AtpHappenings.{HoldsNo, numbers_drawn}
 use Rattle.at_world.specs.Draws.{Draws, last_of, noted, is_no_later}
 use Rattle.at_nodes.specs.Nodes.{is_numbered, holds_some}
-use Rattle.at_world.proofs.NotedLemmas.{Noted, not_later, noted_now, stays_noted}
+use Rattle.at_world.proofs.NotedLemmas.{noted_now}
+use Rattle.at_world.proofs.NotedLists.{IsListed, all_timely, still_listed}
 use Rattle.at_world.proofs.Parts.Atp.Places.{service_of, served_of, records_at}
 
 -- ---- deliveries
 
 -- the world noted each number that was drawn
 abbrev pub IsNoted : Draws → ℕ → Drawn → Type 0
-IsNoted last events x = Noted last events (x.who).node (Tid x.tid) x.event
+IsNoted = IsListed (λ (x : Drawn). x.who) (λ (x : Drawn). x.tid) (λ (x : Drawn). x.event) Tid
 
 -- a number that no later event drew in the world, no later event drew in the network
-one_in_time : (last : Draws) (events : ℕ) (who : Address) (tid event : ℕ) (x : Drawn) → IsNoted last events x
-    → is_no_later (last_of last who.node (Tid tid)) event ≡ true → network.is_no_later who tid event x ≡ true
-one_in_time last events who tid event x its fresh = go (same_address x.who who && (x.tid == tid)) refl
-  where
-    go : (b : Bool) → (same_address x.who who && (x.tid == tid)) ≡ b → (not b || nat_le x.event event) ≡ true
-    go false e = refl
-    go true e =
-        let both = and_parts (same_address x.who who) (x.tid == tid) e in
-        let same : last_of last who.node (Tid tid)
-        ≡ last_of last (x.who).node (Tid x.tid) =
-        λ i. last_of last (sym (same_address-true x.who who both.0) i).node
-        (Tid (sym (eqb-true x.tid tid both.1) i)) in
-        le-leb x.event event (not_later last events (x.who).node (Tid x.tid) x.event event its
-        (ap (λ o. is_no_later o event) (sym same) ∙ fresh))
-
 pub in_time : (last : Draws) (events : ℕ) (who : Address) (tid event : ℕ) (drawn : List Drawn)
     → AllByRecursion (IsNoted last events) drawn → is_no_later (last_of last who.node (Tid tid)) event ≡ true
     → list_all (network.is_no_later who tid event) drawn ≡ true
-in_time last events who tid event [] all fresh = refl
-in_time last events who tid event (x ∷ drawn) all fresh = λ i. one_in_time last events who tid event x all.0 fresh i
-    && in_time last events who tid event drawn all.1 fresh i
+in_time = all_timely (λ (x : Drawn). x.who) (λ (x : Drawn). x.tid) (λ (x : Drawn). x.event) Tid
 
 -- ---- draws
 
 pub all_noted : (last : Draws) (events k : ℕ) (o : Option Draw) (drawn : List Drawn)
     → AllByRecursion (IsNoted last events) drawn → AllByRecursion (IsNoted (noted last k events o) (events + 1)) drawn
-all_noted last events k o [] all = tt
-all_noted last events k o (x ∷ drawn) all =
-    (stays_noted last events k o (x.who).node (Tid x.tid) x.event all.0, all_noted last events k o drawn all.1)
+all_noted = still_listed (λ (x : Drawn). x.who) (λ (x : Drawn). x.tid) (λ (x : Drawn). x.event) Tid
 
 -- and so is each number that an event drew now, if it drew one
 pub drawn_too : (last : Draws) (events event net k : ℕ) (d : Option Draw) (drawn : List Drawn) → events ≡ event

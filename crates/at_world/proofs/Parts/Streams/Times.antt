@@ -1,12 +1,10 @@
 -- What is timely in a world is timely in the network of its ends of streams.
-use Rattle.std.proofs.Common.{◌≡◌, ℕ, ◌+◌, Bool, true, false, List, [], ◌∷◌, ◌++◌, map, Option, Some, None, refl, sym}
-use Rattle.std.proofs.Common.{ap, subst, ◌∙◌}
-use Rattle.std.specs.Prelude.{nat_le, ◌==◌, ◌&&◌, ◌||◌, not}
+use Rattle.std.proofs.Common.{◌≡◌, ℕ, ◌+◌, Bool, true, false, List, [], ◌∷◌, ◌++◌, map, Option, Some, None, refl}
+use Rattle.std.proofs.Common.{subst}
+use Rattle.std.specs.Prelude.{◌==◌, ◌&&◌, ◌||◌}
 use Rattle.std.specs.List.{AllByRecursion, list_all}
-use Rattle.std.proofs.lemmas.Bool.{and_parts, eqb-false, eqb-true, le-leb}
-use Rattle.at_ddp.specs.Address.{same_address}
+use Rattle.std.proofs.lemmas.Bool.{eqb-false}
 use Rattle.at_ddp.specs.declared.address.Address.{Address}
-use Rattle.at_ddp.proofs.Octets.{same_address-true}
 use Rattle.at_adsp.specs.Connections.{streams}
 use Rattle.at_adsp.specs.Network as network
 use Rattle.at_adsp.specs.Network.{Made, Network}
@@ -15,37 +13,24 @@ use Rattle.at_node.specs.declared.numbers.Draw.TheVariants.{Conn, Lookup, Tid}
 use Rattle.at_steps.specs.StreamHappenings.{Drawn, identifiers, numbers_drawn}
 use Rattle.at_stream_socket.specs.Sockets.{streams_at}
 use Rattle.at_world.specs.Draws.{Draws, last_of, noted, is_no_later}
-use Rattle.at_world.proofs.NotedLemmas.{Noted, not_later, noted_now, stays_noted}
+use Rattle.at_world.proofs.NotedLemmas.{Noted, noted_now}
+use Rattle.at_world.proofs.NotedLists.{IsListed, one_timely, still_listed}
 
 -- the world noted each identifier that was drawn
 abbrev pub IsNoted : Draws → ℕ → Drawn → Type 0
-IsNoted last events d = Noted last events (d.who).node (Conn d.id) d.event
+IsNoted = IsListed (λ (d : Drawn). d.who) (λ (d : Drawn). d.id) (λ (d : Drawn). d.event) Conn
 
 -- an identifier that no later event drew in the world, no later event drew in the network
-one_in_time : (last : Draws) (events : ℕ) (who : Address) (id event : ℕ) (m : Made)
-    → IsNoted last events (record { event = m.stream.birth; who = m.stream.owner; id = m.stream.id })
-    → is_no_later (last_of last who.node (Conn id)) event ≡ true → network.is_no_later event who id m ≡ true
-one_in_time last events who id event m its fresh = go (same_address m.stream.owner who && (m.stream.id == id)) refl
-  where
-    go : (t : Bool) → (same_address m.stream.owner who && (m.stream.id == id)) ≡ t
-        → (not t || nat_le m.stream.birth event) ≡ true
-    go false e = refl
-    go true e =
-        let both = and_parts (same_address m.stream.owner who) (m.stream.id == id) e in
-        let same : last_of last who.node (Conn id) ≡ last_of last m.stream.owner.node (Conn m.stream.id) =
-        λ i. last_of last (sym (same_address-true m.stream.owner who both.0) i).node
-        (Conn (sym (eqb-true m.stream.id id both.1) i)) in
-        le-leb m.stream.birth event
-        (not_later last events m.stream.owner.node (Conn m.stream.id) m.stream.birth event its
-        (ap (λ o. is_no_later o event) (sym same) ∙ fresh))
-
 all_in_time : (last : Draws) (events : ℕ) (who : Address) (id event : ℕ) (made : List Made)
     → AllByRecursion (IsNoted last events) (identifiers (map (λ (m : Made). m.stream) made))
     → is_no_later (last_of last who.node (Conn id)) event ≡ true → list_all (network.is_no_later event who id) made
     ≡ true
 all_in_time last events who id event [] all fresh = refl
-all_in_time last events who id event (m ∷ made) all fresh = λ i. one_in_time last events who id event m all.0 fresh i
-    && all_in_time last events who id event made all.1 fresh i
+all_in_time last events who id event (m ∷ made) all fresh =
+    let drawn : Drawn = record { event = m.stream.birth; who = m.stream.owner; id = m.stream.id } in
+    let one = one_timely (λ (d : Drawn). d.who) (λ (d : Drawn). d.id) (λ (d : Drawn). d.event) Conn last events who id
+    event drawn all.0 fresh in
+    λ i. one i && all_in_time last events who id event made all.1 fresh i
 
 -- an identifier that is none, or that no later event drew in the world, is kept in the network
 pub kept_in_time : (last : Draws) (events : ℕ) (who : Address) (id event : ℕ) (n : Network)
@@ -60,9 +45,7 @@ kept_in_time last events who id event n all fresh = go (id == 0) refl
 
 all_noted : (last : Draws) (events k : ℕ) (o : Option Draw) (drawn : List Drawn)
     → AllByRecursion (IsNoted last events) drawn → AllByRecursion (IsNoted (noted last k events o) (events + 1)) drawn
-all_noted last events k o [] all = tt
-all_noted last events k o (d ∷ drawn) all =
-    (stays_noted last events k o (d.who).node (Conn d.id) d.event all.0, all_noted last events k o drawn all.1)
+all_noted = still_listed (λ (d : Drawn). d.who) (λ (d : Drawn). d.id) (λ (d : Drawn). d.event) Conn
 
 -- what was drawn up to an event is noted after it
 pub all_noted_then : (last : Draws) (events event net k : ℕ) (d : Option Draw) (before : List Drawn) → events ≡ event
