@@ -14,7 +14,7 @@ use Rattle.at_adsp_end.specs.declared.remote.Remote.{Remote}
 use Rattle.at_adsp_ends.specs.Tables.{by_id, moved, with_changed}
 use Rattle.at_ddp.specs.Posts.{stamped}
 use Rattle.at_ddp.proofs.PostLemmas.{put_elsewhere, sent_both, sent_implied, stamped_past}
-use Rattle.std.proofs.lemmas.Bool.{and_right}
+use Rattle.std.proofs.lemmas.Bool.{and_right, and_left}
 use Rattle.at_adsp.specs.Network.{Setting, Made, Sent, Network, changed, dest_of, does_with, is_end, is_fresh}
 use Rattle.at_adsp.specs.Network.{is_no_later, joined, named, names_now, newest, noted_with}
 use Rattle.at_adsp.specs.Streams.{Deed}
@@ -34,9 +34,6 @@ pub record Moves (e f : EndState) : Type 0 where
   pub remote : (r : Remote) → e.remote ≡ Some r → f.remote ≡ Some r
   pub opened : has_opened e.phase ≡ true → has_opened f.phase ≡ true
   pub known : IsKnown f
-
-pub left_false : (a b : Bool) → a ≡ false → (a && b) ≡ false
-left_false a b e = ap (λ c. c && b) e
 
 -- ---- the end that was made, and what is noted of it now
 
@@ -184,7 +181,7 @@ module _ (deed : Deed) (setting : Setting) (n : Network) (at : Address) (e f : E
     standing =
         put_elsewhere (λ a t. AllByRecursion (Stands setting later a) t.ends) n.tables at (with_changed (n.tables at) f)
         (λ a other. all_implied (Stands setting n.made a) (Stands setting later a) (n.tables a).ends
-        (λ x t. stands_kept a x (left_false (same_address at a) (f.id == x.id) other) t) (sound.standing a))
+        (λ x t. stands_kept a x (and_left (same_address at a) (f.id == x.id) other) t) (sound.standing a))
         (all_moved (Stands setting n.made at) (Stands setting later at) f.id f (n.tables at).ends (sound.differ at)
         (λ x other t. stands_kept at x (and_right (same_address at at) (f.id == x.id) (apart x.id f.id other)) t)
         stands_now (sound.standing at));

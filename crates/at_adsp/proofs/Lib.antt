@@ -28,6 +28,8 @@ mod PlainHistories
 mod Ranges
 mod SentRanges
 mod RangeHistories
+mod RangeMoves
+mod RangeSegments
 mod RangeSteps
 mod RangeRuns
 mod Rounds

@@ -51,7 +51,7 @@ pub nothing_more : {X : Type 0} (l : List X) → l ++ [] ≡ l
 nothing_more [] = refl
 nothing_more (x ∷ l) = ap (λ k. x ∷ k) (nothing_more l)
 
-puts_free : (ds : List Item) → NoReset (map Put ds)
+pub puts_free : (ds : List Item) → NoReset (map Put ds)
 puts_free [] = tt
 puts_free (d ∷ ds) = (refl, puts_free ds)
 

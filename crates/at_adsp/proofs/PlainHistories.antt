@@ -20,6 +20,7 @@ use Rattle.at_adsp.specs.Orders.{IsNoReset, ReadsBeginnings, ReadsInOrder, whole
 use Rattle.at_adsp.specs.Reading.{NoReset, Put, ReadsFrom, Reset, Written, is_put, nothing, same, passes}
 use Rattle.at_adsp.specs.Streams.{Deed, Nothing, Wrote, Read, GaveUp, written_after}
 use Rattle.at_adsp.proofs.FlowHistories.{reads_in_order}
+use Rattle.at_adsp.proofs.Logs.{puts_free}
 
 -- ---- reading where nothing was reset
 
@@ -42,13 +43,9 @@ abbrev IsNoGivingUp : Deed → Type 0
 IsNoGivingUp GaveUp = ⊥
 IsNoGivingUp other = Unit {0}
 
-puts_plain : (items : List Item) → NoReset (map Put items)
-puts_plain [] = tt
-puts_plain (x ∷ items) = (refl, puts_plain items)
-
 written_plain : (deed : Deed) (ws : List Written) → IsNoGivingUp deed → NoReset ws → NoReset (written_after deed ws)
 written_plain Nothing ws calm h = h
-written_plain (Wrote items) ws calm h = all_both (λ w. is_put w ≡ true) ws (map Put items) h (puts_plain items)
+written_plain (Wrote items) ws calm h = all_both (λ w. is_put w ≡ true) ws (map Put items) h (puts_free items)
 written_plain (Read items) ws calm h = h
 written_plain GaveUp ws calm h = absurd calm
 

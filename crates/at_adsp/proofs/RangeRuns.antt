@@ -10,8 +10,10 @@ use Rattle.at_adsp_ends.specs.Tables.{next_id}
 use Rattle.at_adsp.specs.Lawfully.{IsInRange, IsLawfulSetting, IsLawfullySent}
 use Rattle.at_ddp.specs.Posts.{AllSent, packet_at, put}
 use Rattle.at_ddp.proofs.PostLemmas.{none_sent, put_elsewhere, sent_at, sent_both}
-use Rattle.at_adsp.proofs.RangeSteps.{deed_fits, connects_fits, closes_fits, writes_fits, reads_fits, resets_fits}
-use Rattle.at_adsp.proofs.RangeSteps.{ticks_fits, part_fits}
+use Rattle.at_adsp.proofs.RangeSteps.{connects_fits, closes_fits, writes_fits, reads_fits, resets_fits}
+use Rattle.at_adsp.proofs.RangeSteps.{ticks_fits}
+use Rattle.at_adsp.proofs.RangeMoves.{deed_fits}
+use Rattle.at_adsp.proofs.RangeSegments.{part_fits}
 use Rattle.at_adsp.specs.Network.{Closes, Connects, Happening, Listens, Network, Other, Reads, Resets, Sent, Setting}
 use Rattle.at_adsp.specs.Network.{Strange, Takes, Ticks, Writes, after, done, gave_up, takes}
 use Rattle.at_adsp.specs.Network.{wrote_first}

@@ -1,10 +1,9 @@
 -- A line more of the text of a drive.
 use Rattle.std.proofs.Common.{◌≡◌, ℕ, ◌+◌, ◌-◌, ◌^◌, true, false, not, List, [], ◌∷◌, ◌++◌, inl}
 use Rattle.std.proofs.Common.{inr, refl, sym, ap, subst, ◌∙◌, append-nil, append_assoc, arith, cond, map, min}
-use Rattle.std.proofs.Common.{Bool, Err, IfSome, None, Option, Result, Some}
+use Rattle.std.proofs.Common.{Bool, IfSome, None, Option, Some}
 use Rattle.std.proofs.lemmas.List.{length-append}
 use Rattle.std.specs.List.{AllZip}
-use Rattle.at_call_words.specs.Readings.{IfUnlawful}
 use Rattle.at_faults.specs.Reads.{IsOfRead}
 use Rattle.at_faults.specs.declared.fault.Fault.{Fault}
 use Rattle.at_faults.specs.declared.fault.Fault.TheVariants as fault
@@ -17,6 +16,7 @@ use Rattle.at_setup_lines.specs.FirstWords.{HasHead, HaveHeads}
 use Rattle.at_setup_lines.specs.SetupLines.{IsSetup}
 use Rattle.at_schedule.specs.Drafts.{number_after}
 use Rattle.at_schedule.specs.Schedules.{is_passed_over}
+use Rattle.at_schedule.proofs.LineLemmas.{IfBroken, IsToldAs}
 use Rattle.at_drive.specs.declared.step.Step.{Step}
 use Rattle.at_drive_lines.specs.Drafts.{Adds, Bars, BeginDrive, BeginsSo, HasRead, IsDriveFault, words_in}
 use Rattle.at_drive_lines.specs.Lines.{HasNext, HaveCome, IsLast}
@@ -127,27 +127,12 @@ read_next A first now after line number next old new (read, come, has, numbered)
   numbered_next read line number next numbered one,
 )
 
--- what is told of a line that was refused
-abbrev pub IsToldAs : LineFault → ℕ → Fault → Type 0
-IsToldAs (Unlawful rule) number told = (r : Rule) × (told ≡ fault.Line number r)
-IsToldAs NoMemory number told = told ≡ fault.NoMemory
-
 pub told_as : (why mid : LineFault) (number : ℕ) (told : Fault)
     → ((rule : Rule) → why ≡ Unlawful rule → (r : Rule) × (mid ≡ Unlawful r)) → (why ≡ NoMemory → mid ≡ NoMemory)
     → ((rule : Rule) → mid ≡ Unlawful rule → (r : Rule) × (told ≡ fault.Line number r))
     → (mid ≡ NoMemory → told ≡ fault.NoMemory) → IsToldAs why number told
 told_as (Unlawful rule) mid number told one two three four = let (r, is) = one rule refl in three r is
 told_as NoMemory mid number told one two three four = four (two refl)
-
--- this is so if a rule was broken
-abbrev pub IfBroken : LineFault → Type 0 → Type 0
-IfBroken (Unlawful rule) P = P
-IfBroken NoMemory P = Unit {0}
-
-pub broken_of : {T : Type 0} (P Q : Type 0) (r : Result T LineFault) (why : LineFault) → r ≡ Err why → IfUnlawful r P
-    → (P → Q) → IfBroken why Q
-broken_of P Q r (Unlawful rule) was h so = so (rw was at h)
-broken_of P Q r NoMemory was h so = tt
 
 pub at_fault : (A : Type 0) (first now after : Option (List (List ℕ))) (may_fail : Bool) (line : List ℕ) (number : ℕ)
     (d : DriveDraft A) (why : LineFault) (told : Fault) (so : SoFar A first now number d) → HasNext now line after

@@ -1,9 +1,7 @@
 -- What is printed of a log, part after part.
 use Rattle.std.proofs.Common.{◌≡◌, ℕ, ◌+◌, ◌<◌, List, [], ◌∷◌, ◌++◌, length, take, get_or}
 use Rattle.std.proofs.Common.{refl, sym, ap, subst, ◌∙◌, append-nil, append_assoc, arith}
-use Rattle.std.proofs.lemmas.Grind.{flat_map-append}
 use Rattle.std.proofs.lemmas.List.{take_more, length-take-le}
-use Rattle.std.proofs.lemmas.List.Concat.{flat_map-cons}
 use Rattle.std.proofs.lemmas.Option.{slice_get-get_or}
 use Rattle.std.specs.List.{flat_map}
 use Rattle.std.specs.Prelude.{slice_get, Option, Some, None, codes, if◌then◌else◌}
@@ -75,14 +73,3 @@ pub four_parts : {W : Type 0} (page : W → Page) (a b c d e : Printer W) (w x y
 four_parts page a b c d e w x y z p q r s =
     Prints-trans page a b e w (x ++ (y ++ z)) p
     (Prints-trans page b c e x (y ++ z) q (Prints-trans page c d e y z r s))
-
--- one line more
-pub next_line : {T W : Type 0} (page : W → Page) (f : T → List ℕ) (xs : List T) (i : ℕ) (d x : T) (a b c : Printer W)
-    → i < length xs → x ≡ get_or xs i d → Prints page a b (flat_map f (take i xs)) → Prints page b c (f x)
-    → Prints page a c (flat_map f (take (i + 1) xs))
-next_line page f xs i d x a b c lt is before next =
-    let more : flat_map f (take (i + 1) xs) ≡ flat_map f (take i xs) ++ f x =
-    ap (flat_map f) (take_more xs i d lt ∙ ap (λ y. take i xs ++ y ∷ []) (sym is))
-    ∙ flat_map-append f (take i xs) (x ∷ [])
-    ∙ ap (λ l. flat_map f (take i xs) ++ l) (flat_map-cons f x [] ∙ append-nil (f x)) in
-    subst (Prints page a c) (sym more) (Prints-trans page a b c _ _ before next)

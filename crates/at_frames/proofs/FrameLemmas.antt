@@ -2,9 +2,9 @@
 use Rattle.std.proofs.Common.{◌≡◌, ◌⊎◌, inl, inr, ℕ, ◌≤◌, Bool, true, false, List, ◌++◌, length}
 use Rattle.std.proofs.Common.{take}
 use Rattle.std.proofs.Common.{drop, Result, Ok, Err, refl, sym, ap, ◌∙◌, arith}
-use Rattle.std.specs.Prelude.{◌==◌, ◌&&◌, ◌||◌, IfOk, IsOkAnd, nat_le, nat_lt, slice_index}
+use Rattle.std.specs.Prelude.{◌==◌, ◌||◌, IfOk, IsOkAnd, nat_le, nat_lt, slice_index}
 use Rattle.std.specs.List.{flat_map}
-use Rattle.std.proofs.lemmas.Bool.{eq-eqb, eqb-false, eqb-true, le-ltb, ltb-false, ne_eqb}
+use Rattle.std.proofs.lemmas.Bool.{eq-eqb, eqb-false, eqb-true, le-ltb, ltb-false, ne_eqb, and_right}
 use Rattle.std.proofs.lemmas.List.{drop-drop, length-append, length-drop, length-take-le, take-append-drop}
 use Rattle.at_ddp.specs.Fault.{number_at}
 use Rattle.at_ddp.proofs.Octets.{append_parts}
@@ -63,10 +63,6 @@ typed_told stations bytes d long other h =
     let there : nat_lt (length bytes) 2 ≡ false = le-ltb (length bytes) 2 long in
     rw (there, other) h
 
-and_false : (x y : Bool) → y ≡ false → (x && y) ≡ false
-and_false true y h = h
-and_false false y h = refl
-
 ethernet_told : (frame : List ℕ) (d : Load) → EthernetCarries frame d → in_ethernet frame ≡ Ok d
 unfolding in_ethernet
 ethernet_told frame d c =
@@ -99,7 +95,7 @@ ethernet_told frame d c =
     let other = type_is_no_tag stations (number_at 0 c.typed) (drop 2 c.typed) d c.behind in
     let rest : after_tags (drop 12 frame) ≡ c.typed =
     ap after_tags from.1
-    ∙ past_tags c.tags c.typed c.each (and_false (nat_le 4 (length c.typed)) (is_tag (number_at 0 c.typed)) other) in
+    ∙ past_tags c.tags c.typed c.each (and_right (nat_le 4 (length c.typed)) (is_tag (number_at 0 c.typed)) other) in
     let there : nat_lt (length frame) 14 ≡ false = le-ltb (length frame) 14 enough in
     rw (there, rest, to.0, from.0)
     (typed_told stations c.typed d has_type other (type_told stations (number_at 0 c.typed)

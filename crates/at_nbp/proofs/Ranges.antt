@@ -16,13 +16,14 @@ use Rattle.at_nbp.specs.Network.{asks}
 use Rattle.at_nbp.specs.Packets.{Content, HasCount, IsLawful, spelling}
 use Rattle.at_nbp.specs.Relays.{asks_router, in_zone, relayed}
 use Rattle.at_nbp.specs.Replies.{AreReplies, IsFull, entry_in, size_of}
-use Rattle.at_nbp.specs.Tuples.{Entry, FitsStrings, IsString, IsTuple}
+use Rattle.at_nbp.specs.Tuples.{Entry, IsString, IsTuple}
 use Rattle.at_nbp.specs.declared.function.Function.{Function}
 use Rattle.at_nbp.specs.declared.function.Function.TheVariants.{BroadcastRequest, LookUp, Reply, ForwardRequest}
 use Rattle.at_nbp.specs.declared.name.Name.{Name}
 use Rattle.at_nbp.specs.declared.names.Registered.{Registered}
 use Rattle.at_nbp.proofs.AskingLemmas.{one_counts, one_len}
 use Rattle.at_nbp.proofs.PacketLemmas.{length_spelling}
+use Rattle.at_nbp.proofs.UnreadLemmas.{fits_strings}
 
 -- ---- strings and tuples
 
@@ -56,15 +57,12 @@ first_tuple t ts each = each 0 t (omega arith)
 abbrev pub IsSpelled : Content → Type 0
 IsSpelled p = IsLawful p × (length (spelling p) ≤ 586)
 
-short_strings : (t : Entry) → IsTuple t → FitsStrings t
-short_strings t is k d lt = let text = is.each k d lt in text.fits
-
 -- one tuple has room
 one_small : (f : Function) (id : ℕ) (tuples : List Entry) → length tuples ≡ 1 → All IsTuple tuples
     → length (spelling (record { function = f; id = id; tuples = tuples })) ≤ 586
 one_small f id [] one each = absurd (omega (arith, one))
 one_small f id (t ∷ u ∷ ts) one each = absurd (omega (arith, one))
-one_small f id (t ∷ []) one each = omega (arith, one_len f id t (short_strings t (first_tuple t [] each)))
+one_small f id (t ∷ []) one each = omega (arith, one_len f id t (fits_strings t (first_tuple t [] each)))
 
 -- ---- questions
 

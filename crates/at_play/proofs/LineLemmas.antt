@@ -10,6 +10,8 @@ use Rattle.at_setup_lines.specs.Drafts.{Draft}
 use Rattle.at_schedule.specs.Drafts.{BeginSchedule, IsRead}
 use Rattle.at_schedule.specs.Says.{SayAll, Says}
 use Rattle.at_schedule.specs.Schedules.{event_lines, is_event_line, lines_in}
+use Rattle.at_schedule.proofs.ReadLemmas.{say_more}
+use Rattle.at_schedule.proofs.WholeLemmas.{filter_more}
 use Rattle.at_play.specs.Told.{BeginsWith, BreaksOff, LineLeft, NextSays}
 
 -- these lines were read of a text that is known, and the others are in what is left of it
@@ -109,18 +111,6 @@ come_on (Some all) lines None line after come cuts = absurd come
 come_on (Some all) lines (Some rest) line None come cuts = absurd cuts
 come_on (Some all) lines (Some rest) line (Some later) come cuts =
     come ∙ ap (λ l. lines ++ l) cuts ∙ sym (append_assoc lines (line ∷ []) (lines_in later))
-
-say_more : {A : Type 0} (lines : List (List ℕ)) (es : List (Event A)) (line : List ℕ) (e : Event A) → SayAll lines es
-    → Says line e → SayAll (lines ++ line ∷ []) (es ++ e ∷ [])
-say_more [] [] line e h says = (says, tt)
-say_more (l ∷ lines) (x ∷ es) line e h says = (h.0, say_more lines es line e h.1 says)
-say_more [] (x ∷ es) line e h says = absurd h
-say_more (l ∷ lines) [] line e h says = absurd h
-
-filter_more : (b : Bool) (lines : List (List ℕ)) (line : List ℕ) → is_event_line line ≡ b
-    → filter is_event_line (lines ++ line ∷ []) ≡ filter is_event_line lines ++ cond b (line ∷ []) []
-filter_more b lines line is = filter-append is_event_line lines (line ∷ [])
-    ∙ ap (λ v. filter is_event_line lines ++ cond v (line ∷ []) []) is
 
 said_on : (A : Type 0) (b : Bool) (lines : List (List ℕ)) (line : List ℕ) (es more : List (Event A))
     → is_event_line line ≡ b → SayAll (filter is_event_line lines) es → Adds b line es more

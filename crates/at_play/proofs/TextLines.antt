@@ -1,9 +1,8 @@
 -- Where the play of a line stops, the play of a text in memory stops.
-use Rattle.std.proofs.Common.{◌≡◌, ℕ, ◌⊎◌, inl, inr, not, Bool, true, false, List, [], ◌∷◌, ◌++◌, filter, length}
-use Rattle.std.proofs.Common.{Some, refl, sym, ap, subst, ◌∙◌, append_assoc, arith}
-use Rattle.std.specs.Prelude.{◌==◌, if◌then◌else◌}
+use Rattle.std.proofs.Common.{◌≡◌, ℕ, ◌⊎◌, inl, inr, not, Bool, true, false, List, [], ◌∷◌, ◌++◌, filter}
+use Rattle.std.proofs.Common.{Some, refl, sym, ap, subst, ◌∙◌, append_assoc}
+use Rattle.std.specs.Prelude.{if◌then◌else◌}
 use Rattle.std.proofs.lemmas.Bool.{true≢false}
-use Rattle.std.proofs.lemmas.Bool.Decides.{nat_tests}
 use Rattle.at_diagnostics.specs.declared.stop.Stop.{Stop}
 use Rattle.at_diagnostics.specs.declared.stop.Stop.TheVariants as stop
 use Rattle.at_setup.specs.declared.event.Event.{Event}
@@ -17,10 +16,6 @@ use Rattle.at_schedule.specs.Schedules.{is_setup_line, lines_in}
 use Rattle.at_world.specs.Worlds.{IsPlayable, WorldState}
 use Rattle.at_play.specs.Told.{NextTakesMemory, StopsIn, StopsLine}
 use Rattle.at_play.proofs.LineLemmas.{HasRead, event_at, next_said}
-
-pub none_left : (text : List ℕ) → (length text == 0) ≡ true → text ≡ []
-none_left [] h = refl
-none_left (c ∷ text) h = absurd (grind (arith, nat_tests, h))
 
 -- no event comes before a line for the setup
 abbrev pub SetupFirst : Type 0

@@ -29,7 +29,7 @@ use Rattle.at_diagnostics.specs.declared.stop.Stop.{Stop}
 use Rattle.at_diagnostics.specs.declared.stop.Stop.TheVariants as stop
 
 -- what is known less says less
-stops_unknown : (A : Type 0) (text : List ℕ) (es : List (Event A)) (w : WorldState) (s : Stop)
+pub stops_unknown : (A : Type 0) (text : List ℕ) (es : List (Event A)) (w : WorldState) (s : Stop)
     → StopsIn A (Some text) false es w s → StopsIn A None false es w s
 stops_unknown A text es w (stop.Text f) h = absurd (true≢false (sym h.0))
 stops_unknown A text es w (stop.Event fault.NoMemory n number datagram) h = (h.0, inr tt)

@@ -1,4 +1,4 @@
 mod NameLineLemmas
 pub mod PrintLemmas
-mod ReportLemmas
+pub mod ReportLemmas
 mod StreamLemmas

@@ -1,7 +1,6 @@
 -- What was played of a schedule, without printing it.
 use Rattle.std.proofs.Common.{◌≡◌, ℕ, ◌<◌, List, [], length, Err, Ok, Some, None, false, inl, inr, refl, sym, ap, subst}
 use Rattle.std.proofs.Common.{◌∙◌, append-nil}
-use Rattle.std.proofs.lemmas.Bool.{true≢false}
 use Rattle.std.specs.Prelude.{◌↔◌, IfSome, IsErr, IsOk, Option, Result}
 use Rattle.at_diagnostics.specs.declared.diagnostics.Diagnostics.{Diagnostics}
 use Rattle.at_diagnostics.specs.declared.stop.Stop.{Stop}
@@ -12,6 +11,7 @@ use Rattle.at_play.specs.Ends.{IsTextFault}
 use Rattle.at_play.specs.Told.{BeginsWith, Played, StopsIn, TellsReports}
 use Rattle.at_play.proofs.LineLemmas.{none_said}
 use Rattle.at_play.proofs.ToldLemmas.{Sofar, sofar_opened}
+use Rattle.at_play.proofs.WholePlays.{stops_unknown}
 use Rattle.at_print.specs.Papers.{Page}
 use Rattle.at_print.specs.Printers.{Prints}
 use Rattle.at_print.specs.declared.printer.Printer.{Printer}
@@ -83,13 +83,6 @@ module _ (A : Type 0) {E : Type 0} (heard : E → Page) (setup : Setup A) where
   played_none known x s number datagram is =
       played_some known (opening_world setup) [] x x x s refl refl (opened (opening_world setup) x refl)
       (subst (StopsIn A known false [] (opening_world setup)) (sym is) (refl, inl refl)) (none_said A known)
-
--- what is known less says less
-stops_unknown : (A : Type 0) (text : List ℕ) (es : List (Event A)) (w : WorldState) (s : Stop)
-    → StopsIn A (Some text) false es w s → StopsIn A None false es w s
-stops_unknown A text es w (stop.Text f) h = absurd (true≢false (sym h.0))
-stops_unknown A text es w (stop.Event fault.NoMemory n number datagram) h = (h.0, inr tt)
-stops_unknown A text es w (stop.Event (fault.Refused r) n number datagram) h = (h.0, (h.1.0, h.1.1, tt))
 
 -- what was read is the text that is known, so its lines say the events
 pub said_of_read : (A : Type 0) (setup : Setup A) (known : Option (List ℕ)) (bytes all : List ℕ)

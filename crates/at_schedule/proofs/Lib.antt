@@ -3,7 +3,7 @@ mod EndLemmas
 mod EventLemmas
 pub mod FaultLemmas
 mod HeadLemmas
-mod LineLemmas
+pub mod LineLemmas
 mod OrderLemmas
-mod ReadLemmas
-mod WholeLemmas
+pub mod ReadLemmas
+pub mod WholeLemmas

@@ -1,11 +1,12 @@
 -- One line more of a schedule that is read once.
 use Rattle.std.proofs.Common.{◌≡◌, ◌⊎◌, ℕ, Bool, true, false, cond, List, [], ◌∷◌, ◌++◌, filter, length, Some}
 use Rattle.std.proofs.Common.{None, Ok, Err, Result, inl, inr, refl, sym, ap, subst, ◌∙◌}
-use Rattle.std.proofs.Common.{append-nil, arith}
+use Rattle.std.proofs.Common.{append-nil}
 use Rattle.std.specs.Prelude.{◌==◌, OnOk}
-use Rattle.std.proofs.lemmas.Bool.Decides.{nat_tests}
 use Rattle.std.specs.List.{All}
 use Rattle.std.proofs.lemmas.List.Elements.{All-nil, All-push, filter-append}
+use Rattle.std.proofs.lemmas.List.{nil_from_length}
+use Rattle.std.proofs.lemmas.Bool.{eqb-true}
 use Rattle.at_faults.specs.declared.fault.Fault.{Fault}
 use Rattle.at_faults.specs.declared.fault.Fault.TheVariants as fault
 use Rattle.at_faults.specs.declared.rule.Rule.{Rule}
@@ -14,7 +15,7 @@ use Rattle.at_setup.specs.declared.setup.Setup.{Setup}
 use Rattle.at_setup_lines.specs.Drafts.{Draft, IsDraft, has_events}
 use Rattle.at_setup_lines.specs.SetupLines.{IsSetup}
 use Rattle.at_schedule.specs.Drafts.{BeginSchedule, IsLineFault, IsRead, IsSchedule, number_after}
-use Rattle.at_schedule.specs.Says.{IsEventHere, Reads, SayAll, Says}
+use Rattle.at_schedule.specs.Says.{IsEventHere, Reads, SayAll}
 use Rattle.at_schedule.specs.Schedules.{is_event_line, lines_in, setup_words}
 use Rattle.at_schedule.specs.Wholes.{AreRead}
 use Rattle.at_schedule.proofs.LineLemmas.{none_begins}
@@ -24,7 +25,7 @@ say_none : {A : Type 0} (es : List (Event A)) → SayAll [] es → es ≡ []
 say_none [] h = refl
 say_none (e ∷ es) h = absurd h
 
-filter_more : (b : Bool) (lines : List (List ℕ)) (line : List ℕ) → is_event_line line ≡ b
+pub filter_more : (b : Bool) (lines : List (List ℕ)) (line : List ℕ) → is_event_line line ≡ b
     → filter is_event_line (lines ++ line ∷ []) ≡ filter is_event_line lines ++ cond b (line ∷ []) []
 filter_more b lines line is = filter-append is_event_line lines (line ∷ [])
     ∙ ap (λ v. filter is_event_line lines ++ cond v (line ∷ []) []) is
@@ -63,14 +64,11 @@ pub ok_so : {T E : Type 0} (r : Result T E) (P Q : Type 0) → OnOk r P → (P �
 ok_so (Ok x) P Q h f = f h
 ok_so (Err e) P Q h f = h
 
-pub none_left : (text : List ℕ) → (length text == 0) ≡ true → text ≡ []
-none_left [] h = refl
-none_left (c ∷ text) h = absurd (grind (arith, nat_tests, h))
-
 -- nothing is left
 pub all_lines : (text rest : List ℕ) (read : List (List ℕ)) → lines_in text ≡ read ++ lines_in rest
     → (length rest == 0) ≡ true → lines_in text ≡ read
-all_lines text rest read left none = left ∙ ap (λ l. read ++ lines_in l) (none_left rest none) ∙ append-nil read
+all_lines text rest read left none =
+    left ∙ ap (λ l. read ++ lines_in l) (nil_from_length rest (eqb-true (length rest) 0 none)) ∙ append-nil read
 
 -- no line is read yet
 pub none_read : (A : Type 0) (d : Draft) → IsRead A [] d → AreRead A [] d []

@@ -2,7 +2,7 @@
 use Rattle.std.proofs.Common.{arith, length, ◌≡◌, ◌≤◌, ◌<◌, ℕ, true, false, List, [], ◌∷◌, ◌++◌, ◌+◌, Bool, Result, Ok}
 use Rattle.std.proofs.Common.{Err, OnOk, IsSome, ◌↔◌, inl, inr, refl, sym, ap, subst, ◌∙◌, take, drop, append-nil}
 use Rattle.std.proofs.Common.{append_assoc}
-use Rattle.std.proofs.lemmas.List.{length-append, length-take, take-append-drop}
+use Rattle.std.proofs.lemmas.List.{length-append, length-take, take-append-drop, nil_from_length}
 use Rattle.std.specs.Char.{is_ascii_graphic}
 use Rattle.std.proofs.lemmas.Bool.{eq-eqb, eqb-true}
 use Rattle.std.specs.Prelude.{◌≢◌, ◌==◌, IfSome, Option, Some, None, codes}
@@ -163,9 +163,7 @@ too_long word rest bytes spells some full text h fits =
 -- ---- the empty text
 
 pub none_left : (rest : List ℕ) → (length rest == 0) ≡ true → rest ≡ []
-none_left [] h = refl
-none_left (c ∷ rest) h = let none : length (c ∷ rest) ≡ 0 = eqb-true (length (c ∷ rest)) 0 h in
-    absurd (omega (arith, none))
+none_left rest h = nil_from_length rest (eqb-true (length rest) 0 h)
 
 -- a percent sign alone spells no byte
 pub percent_alone : (text : List ℕ) → ¬ ((AreGlyphs (codes "%") text) × (0 < length text))

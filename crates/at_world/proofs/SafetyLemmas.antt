@@ -35,6 +35,7 @@ use Rattle.at_world.specs.Worlds.{WorldState, IsPlayable, Plays, PlaysAt, is_ove
 use Rattle.at_world.specs.Worlds.{recorded}
 use Rattle.at_setup.specs.declared.refusal.EventFault.{EventFault}
 use Rattle.at_world.proofs.Runs.{still_runs}
+use Rattle.at_world.proofs.WorldLemmas.{few_datagrams}
 
 -- what the layer below promises of each event of a node
 pub record SafetyLaws (A : Type 0) : Type 0 where
@@ -153,13 +154,6 @@ events_left w = go w.events (nat_lt 868928 (length w.sent))
     go : (n : ℕ) (b : Bool) → (nat_le 200000 n || b) ≡ false → n + 1 ≤ 200000
     go n b h = grind (arith, nat_tests)
 
-datagrams_left : (w : WorldState) → is_over w ≡ false → length w.sent ≤ 868928
-datagrams_left w = go (nat_le 200000 w.events) (length w.sent)
-  where
-    go : (b : Bool) (n : ℕ) → (b || nat_lt 868928 n) ≡ false → n ≤ 868928
-    go true n h = absurd (cc)
-    go false n h = grind (arith, nat_tests)
-
 module _ (A : Type 0) (w : WorldState) (e : Event A) (r : Report A) (w' : WorldState) (runs : is_over w ≡ false)
     (all : AreWithin w'.nodes) where
   -- nothing is recorded of a step without an effect
@@ -184,7 +178,7 @@ module _ (A : Type 0) (w : WorldState) (e : Event A) (r : Report A) (w' : WorldS
         within = all;
         few_events = subst (λ (v : WorldState). v.events ≤ 200000) (sym is) (events_left w runs);
         few_sent = subst (λ (v : WorldState). length v.sent ≤ 1000000) (sym is)
-            (omega (arith, few, stamped, joined, datagrams_left w runs));
+            (omega (arith, few, stamped, joined, few_datagrams w runs));
       }
 
   pub of_playing : (S : NodeState → List Posted → Report A → NodeState → List Posted → Type 0)

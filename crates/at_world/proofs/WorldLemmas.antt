@@ -3,7 +3,7 @@ use Rattle.std.proofs.Common.{◌≡◌, ℕ, ◌+◌, Bool, true, false, List, 
 use Rattle.std.proofs.Common.{set, Option, Some, None, sym, ap, subst, ◌∙◌, arith}
 use Rattle.std.proofs.lemmas.Bool.{true≢false}
 use Rattle.std.proofs.lemmas.Bool.Decides.{nat_tests}
-use Rattle.std.specs.Prelude.{◌<◌, nat_le, nat_lt, ◌||◌, find, IfSome}
+use Rattle.std.specs.Prelude.{◌<◌, ◌≤◌, nat_le, nat_lt, ◌||◌, find, IfSome}
 use Rattle.at_ddp.specs.Outbox.{Posted}
 use Rattle.at_ddp.specs.Tables.{replaced}
 use Rattle.at_ddp.proofs.Alls.{all_replaced}
@@ -116,3 +116,11 @@ few_events w events is runs =
   where
     fits : (n : ℕ) (b : Bool) → (nat_le 200000 n || b) ≡ false → n < 200000
     fits n b e = grind (arith, nat_tests)
+
+-- fewer datagrams were sent than would end the play
+pub few_datagrams : (w : WorldState) → is_over w ≡ false → length w.sent ≤ 868928
+few_datagrams w = go (nat_le 200000 w.events) (length w.sent)
+  where
+    go : (b : Bool) (n : ℕ) → (b || nat_lt 868928 n) ≡ false → n ≤ 868928
+    go true n h = absurd (cc)
+    go false n h = grind (arith, nat_tests)

@@ -5,6 +5,8 @@ pub mod Happenings
 pub mod Lists
 pub mod Newest
 pub mod AnsweredFrom
+pub mod AnswerSteps
+pub mod Givings
 pub mod Onces
 pub mod OncePlays
 pub mod OnWire

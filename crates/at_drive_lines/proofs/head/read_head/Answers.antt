@@ -3,7 +3,8 @@ use Rattle.at_drive_lines.specs.Drafts.{BeginDrive, HasRead, words_in}
 use Rattle.at_drive_lines.specs.Lines.{HasNext}
 use Rattle.at_drive_lines.proofs.BeginLemmas.{begins}
 use Rattle.at_drive_lines.proofs.LineLemmas.{none_come}
-use Rattle.at_drive_lines.proofs.TextLemmas.{at_fault, broken_of, cut_short, read_next, said_of, told_as}
+use Rattle.at_drive_lines.proofs.TextLemmas.{at_fault, cut_short, read_next, said_of, told_as}
+use Rattle.at_schedule.proofs.LineLemmas.{broken_of}
 use Rattle.at_drive_lines.proofs.head.read_head.Goals as goal
 
 pub loop-draft-init : goal.loop-draft-init

@@ -1,11 +1,11 @@
 use Rattle.std.specs.Prelude.{refl}
-use Rattle.at_drive_text.proofs.NewsLemmas.{next_line}
+use Rattle.at_print.proofs.ReportLemmas.{Prints-next}
 use Rattle.at_drive_text.specs.Driven.{fault_line}
 use Rattle.at_drive_text.proofs.news.write_faults.Goals as goal
 
 pub loop-at-preserved : goal.loop-at-preserved
 loop-at-preserved g c =
-    next_line
+    Prints-next
     g.W.Paper.page
     fault_line
     c.args.faults.now

@@ -1,9 +1,11 @@
 use Rattle.std.proofs.Common.{◌≡◌, Err, Some, false, refl, ap, subst, sym, ◌∙◌}
 use Rattle.std.proofs.lemmas.Result.{err_from_is_err_and}
+use Rattle.std.proofs.lemmas.List.{nil_from_length}
+use Rattle.std.proofs.lemmas.Bool.{eqb-true}
 use Rattle.at_setup.specs.declared.setup.Setup.{Setup}
 use Rattle.at_world.specs.Plays.{opening_world}
 use Rattle.at_play.proofs.LineLemmas.{HasRead, none_read, reads_all, reads_so_far}
-use Rattle.at_play.proofs.TextLines.{none_left, stops_text}
+use Rattle.at_play.proofs.TextLines.{stops_text}
 use Rattle.at_play.proofs.ToldLemmas.{Sofar, fresh_at, line_played, sofar_opened, sofar_stopped}
 use Rattle.at_play.proofs.playing_text.play_in.Given.{Over}
 use Rattle.at_play.proofs.playing_text.play_in.Goals.{In_ok-play_line}
@@ -55,7 +57,8 @@ returns-then-has_failed-clause-unwritten g c = λ u. c.has_failed.ensures.0 c.if
 pub returns-clause-told : goal.returns-clause-told
 returns-clause-told g c = λ setup is net.
     let before = c.loop-rest.invariant setup is net in
-    let end = none_left c.loop-rest.rest.now (sym c.is_empty.ensures ∙ c.loop-rest-test.false) in (
+    let end = nil_from_length c.loop-rest.rest.now
+    (eqb-true _ 0 (sym c.is_empty.ensures ∙ c.loop-rest-test.false)) in (
       before.0.0,
       before.0.2,
       reads_all g.row.A.Denot (Some c.args.text.now) (Some c.loop-rest.rest.now) ((before.0).0).events _ before.1 end,

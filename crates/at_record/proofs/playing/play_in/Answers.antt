@@ -1,9 +1,11 @@
-use Rattle.std.proofs.Common.{◌≡◌, Err, Some, false, refl, ap, subst, sym, ◌∙◌}
+use Rattle.std.proofs.Common.{◌≡◌, Err, Some, refl, ap, subst, sym, ◌∙◌}
+use Rattle.std.proofs.lemmas.List.{nil_from_length}
+use Rattle.std.proofs.lemmas.Bool.{eqb-true}
 use Rattle.std.proofs.lemmas.Result.{err_from_is_err_and}
 use Rattle.at_setup.specs.declared.setup.Setup.{Setup}
 use Rattle.at_world.specs.Plays.{opening_world}
 use Rattle.at_play.proofs.LineLemmas.{HasRead, none_read, reads_all, reads_so_far}
-use Rattle.at_play.proofs.TextLines.{none_left, stops_text}
+use Rattle.at_play.proofs.TextLines.{stops_text}
 use Rattle.at_play.proofs.ToldLemmas.{fresh_at, line_played}
 use Rattle.at_play.specs.Told.{TellsLine}
 use Rattle.at_record.specs.Ends.{PlaysEvents}
@@ -45,7 +47,8 @@ loop-rest-preserved g c = played_on g (goal.at.loop-rest-preserved g c).In_ok-pl
 pub returns : goal.returns
 returns g c = λ setup is net.
     let before = c.loop-rest.invariant setup is net in
-    let end = none_left c.loop-rest.rest.now (sym c.is_empty.ensures ∙ c.loop-rest-test.false) in
+    let end = nil_from_length c.loop-rest.rest.now
+    (eqb-true _ 0 (sym c.is_empty.ensures ∙ c.loop-rest-test.false)) in
     played_all g.row.A.Denot g.E.Paper.page setup (Some c.args.text.now) c.loop-rest.world c.args.diagnostics.now
     c.loop-rest.diagnostics before.0
     (reads_all g.row.A.Denot (Some c.args.text.now) (Some c.loop-rest.rest.now) ((before.0).0).events _ before.1 end)

@@ -1,12 +1,14 @@
 use Rattle.std.proofs.Common.{◌∷◌, ◌++◌, [], Some, ap, append_assoc, subst, sym, ◌∙◌}
 use Rattle.std.specs.List.{All}
+use Rattle.std.proofs.lemmas.List.{nil_from_length}
+use Rattle.std.proofs.lemmas.Bool.{eqb-true}
 use Rattle.at_schedule.specs.Drafts.{IsLineFault, IsSchedule}
 use Rattle.at_schedule.specs.Says.{IsEventHere}
 use Rattle.at_schedule.specs.Schedules.{lines_in, setup_words}
 use Rattle.at_schedule.specs.Wholes.{events_of}
 use Rattle.at_schedule.proofs.EndLemmas.{any_router, begin_read}
 use Rattle.at_schedule.proofs.LineLemmas.{none_held, numbered_more}
-use Rattle.at_schedule.proofs.WholeLemmas.{all_lines, all_read, none_left, not_taken}
+use Rattle.at_schedule.proofs.WholeLemmas.{all_lines, all_read, not_taken}
 use Rattle.at_schedule.proofs.whole.read_schedule.Goals as goal
 
 pub loop-rest-preserved : goal.loop-rest-preserved
@@ -56,7 +58,8 @@ pub returns-in-Err-end_at-clause-fault : goal.returns-in-Err-end_at-clause-fault
 returns-in-Err-end_at-clause-fault g c =
     let A = g.row.A.Denot in
     let (read, so_far, number, left) = c.loop-rest.invariant in
-    let end = none_left c.loop-rest.rest.now (sym c.is_empty.ensures ∙ c.loop-rest-test.false) in
+    let end = nil_from_length c.loop-rest.rest.now
+    (eqb-true _ 0 (sym c.is_empty.ensures ∙ c.loop-rest-test.false)) in
     let begins = begin_read A read c.loop-rest.draft
     (c.each_draft_can_end.ensures 254 c.loop-rest.draft (setup_words read) any_router so_far.0.0) so_far.0 in
     let only = c.in-Err-end_at.ensures.only in

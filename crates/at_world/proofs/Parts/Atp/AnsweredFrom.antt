@@ -1,5 +1,5 @@
 -- Which answer of the newest transaction of a number a response is from.
-use Rattle.std.proofs.Common.{◌≡◌, ◌⊎◌, inl, inr, ℕ, zero, suc, Bool, true, false, cond, List, []}
+use Rattle.std.proofs.Common.{◌≡◌, ◌⊎◌, inl, inr, ℕ, Bool, true, false, cond, List, []}
 use Rattle.std.proofs.Common.{◌∷◌, ◌++◌, Some, refl, sym, ap, subst, ◌∙◌, arith}
 use Rattle.std.specs.Prelude.{◌==◌, ◌&&◌}
 use Rattle.std.specs.List.{Contains}
@@ -17,14 +17,11 @@ use Rattle.at_atp.specs.HandUps.{draws}
 use Rattle.at_atp.specs.Network.{Network, Happening, done}
 use Rattle.at_atp.specs.Transactions.{Transaction, is_transaction, transaction_of, answered}
 use Rattle.at_world.proofs.Parts.Atp.Newest.{Changes}
+use Rattle.at_world.proofs.Parts.Atp.Lists.{one_answer}
 
 -- an answer of the newest transaction of a key
 abbrev pub Has : List Transaction → Key → List Packet → Type 0
 Has ts key answer = (t : Transaction) × (transaction_of ts key.from key.tid ≡ Some t) × Contains t.answers answer
-
-pub one_packet_list : (x y : List Packet) → Contains (x ∷ []) y → x ≡ y
-one_packet_list x y (zero, lt, is) = is
-one_packet_list x y (suc i, lt, is) = absurd (omega arith)
 
 pub same_keys : (from : Address) (tid : ℕ) (key : Key) (t : Transaction) → is_transaction from tid t ≡ true
     → is_transaction key.from key.tid t ≡ true → same_key (record { from = from; tid = tid }) key ≡ true
@@ -51,7 +48,7 @@ answered_from (t ∷ ts) from tid packets key answer h = go (λ g. answered_from
         ⊎ Contains (packets ∷ []) answer → Has (t ∷ ts) key answer
         ⊎ ((same_key (record { from = from; tid = tid }) key ≡ true) × (packets ≡ answer))
     here d e (inl old) = inl (t, ap (λ x. cond x (Some t) (transaction_of ts key.from key.tid)) e, old)
-    here d e (inr new) = inr (same_keys from tid key t d e, one_packet_list packets answer new)
+    here d e (inr new) = inr (same_keys from tid key t d e, one_answer packets answer new)
 
     there : is_transaction key.from key.tid t ≡ false → Has ts key answer
         ⊎ ((same_key (record { from = from; tid = tid }) key ≡ true) × (packets ≡ answer)) → Has (t ∷ ts) key answer

@@ -20,11 +20,11 @@ use Rattle.at_event.specs.declared.transactions.TransactionReport.TheVariants as
 use Rattle.at_event.specs.declared.zones.ZoneReport.TheVariants as zip_report
 use Rattle.at_steps.specs.AtpHappenings.{sets_table}
 use Rattle.at_steps.specs.AtpSteps as steps
-use Rattle.at_steps.specs.AtpSteps.{Change, ComesToReading, BeginsReading, TurnsPage, EndsReading, FailsReading, Tells}
+use Rattle.at_steps.specs.AtpSteps.{ComesToReading, BeginsReading, TurnsPage, EndsReading, FailsReading, Tells}
 use Rattle.at_steps.specs.AtpSteps.{All, TooMany, Faulty}
 use Rattle.at_world.specs.Machine.AtpGuards.{AtpMachine, Reading, ReadsSince, without_reading}
 use Rattle.at_world.specs.Cables.{Cable, IsSaid}
-use Rattle.at_world.specs.Events.{act_of, node_of}
+use Rattle.at_world.specs.Events.{node_of}
 use Rattle.at_world.specs.Transactions.{Transaction, page_asked, transaction_of}
 use Rattle.at_world.specs.Worlds.{WorldState, node_at}
 use Rattle.at_setup.specs.declared.event.Event.{Event}
@@ -38,17 +38,12 @@ use Rattle.at_world.proofs.Parts.Atp.PageSteps.{comes_from_router, fits, goes_on
 use Rattle.at_world.proofs.Parts.Atp.PageSteps.{no_fault}
 use Rattle.at_world.proofs.Parts.Atp.Readings.{HasStood, has_stood, stood_before}
 use Rattle.at_world.proofs.Parts.Atp.Tie.{Laws, IsReading, AtpTie, Stepped, moved}
-use Rattle.at_world.proofs.Parts.Atp.Staying.{Allows, so_at, tables_kept, still_theirs}
+use Rattle.at_world.proofs.Parts.Atp.Staying.{Allows, in_words, so_at, tables_kept, still_theirs}
 
 module _ (A : Type 0) (laws : Laws A) (w : WorldState) (cable : Cable) (m : AtpMachine) (wires : List Wire)
     (e : Event A) (n x : NodeState) (r : Report A) (t : AtpTie A w cable wires m)
     (stands : node_at w (node_of e) ≡ Some n)
     (keeps : sets_table r ≡ false → x.atp.zones.tables ≡ n.atp.zones.tables) where
-  -- what a step is in words of transactions
-  abbrev Changed : List atp.Transaction → Change A
-  Changed ts =
-      record { asked = map wired m.asked; now_asked = ts; part = n.atp; now = x.atp; act = act_of e; report = r }
-
   -- ---- readings that end
 
   no_longer : (ts : List atp.Transaction) → ts ≡ map wired m.asked → x.atp.zones.reading ≡ None → sets_table r ≡ false
@@ -81,7 +76,8 @@ module _ (A : Type 0) (laws : Laws A) (w : WorldState) (cable : Cable) (m : AtpM
       → Reads cable.net cable.router m.past m.asked m.readings (node_of e) read
   reads read is = subst (IsReading cable m (node_of e)) is (t.readings (node_of e) n stands)
 
-  pub fails_step : (ts : List atp.Transaction) → FailsReading (Changed ts) → IsSaid e r × Stepped A cable m e x r ts
+  pub fails_step : (ts : List atp.Transaction) → FailsReading (in_words m e n x r ts)
+      → IsSaid e r × Stepped A cable m e x r ts
   fails_step ts s =
       let its = reads s.read s.reads in
       no_longer ts s.asked s.reading (ap sets_table s.report)
@@ -89,11 +85,12 @@ module _ (A : Type 0) (laws : Laws A) (w : WorldState) (cable : Cable) (m : AtpM
       (event.Timer (node_of e) s.time) r (report.Zones zip_report.Unanswered) (fired_at e s.time s.act) s.report
       (tt, record { which = s.read.which; since = its.since; began = its.began; becomes = refl }, tt))
 
-  pub reading_ends_step : (ts : List atp.Transaction) → EndsReading cable.net (node_of e) (Changed ts) → IsSaid e r
+  pub reading_ends_step : (ts : List atp.Transaction) → EndsReading cable.net (node_of e) (in_words m e n x r ts)
+      → IsSaid e r
       × Stepped A cable m e x r ts
   reading_ends_step ts s = go s.tells
     where
-      came : ComesToReading cable.net (node_of e) (Changed ts)
+      came : ComesToReading cable.net (node_of e) (in_words m e n x r ts)
       came = s.came
 
       its : Reads cable.net cable.router m.past m.asked m.readings (node_of e) came.read
@@ -159,7 +156,8 @@ module _ (A : Type 0) (laws : Laws A) (w : WorldState) (cable : Cable) (m : AtpM
   }
 
   pub reads_step : n.seat.router ≡ cable.router → (ts : List atp.Transaction)
-      → BeginsReading cable.net (node_of e) n.seat.router (Changed ts) → IsSaid e r × Stepped A cable m e x r ts
+      → BeginsReading cable.net (node_of e) n.seat.router (in_words m e n x r ts)
+      → IsSaid e r × Stepped A cable m e x r ts
   reads_step routed ts s = (
     allows.0,
     record {
@@ -204,7 +202,7 @@ module _ (A : Type 0) (laws : Laws A) (w : WorldState) (cable : Cable) (m : AtpM
           (tt, record { router = s.server; is_router = is_router; becomes = refl }, tt)
 
   -- a page came that is not the last
-  pub turns_step : (ts : List atp.Transaction) → TurnsPage cable.net (node_of e) (Changed ts) → IsSaid e r
+  pub turns_step : (ts : List atp.Transaction) → TurnsPage cable.net (node_of e) (in_words m e n x r ts) → IsSaid e r
       × Stepped A cable m e x r ts
   turns_step ts s = (
     allows.0,
@@ -231,7 +229,7 @@ module _ (A : Type 0) (laws : Laws A) (w : WorldState) (cable : Cable) (m : AtpM
     },
   )
     where
-      came : ComesToReading cable.net (node_of e) (Changed ts)
+      came : ComesToReading cable.net (node_of e) (in_words m e n x r ts)
       came = s.came
 
       its : Reads cable.net cable.router m.past m.asked m.readings (node_of e) came.read

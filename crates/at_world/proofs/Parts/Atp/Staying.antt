@@ -18,7 +18,7 @@ use Rattle.at_event.specs.declared.Timer.TheVariants as timer
 use Rattle.at_event.specs.declared.transactions.TransactionTimer.TheVariants as atp_timer
 use Rattle.at_steps.specs.Acts.{Act, Calls, Fires, Gets, Forges}
 use Rattle.at_steps.specs.AtpHappenings.{sets_table}
-use Rattle.at_steps.specs.AtpSteps.{is_plain}
+use Rattle.at_steps.specs.AtpSteps.{Change, is_plain}
 use Rattle.at_world.specs.Machine.AtpGuards.{AtpMachine, StepBy, next}
 use Rattle.at_world.specs.Cables.{Cable, IsSaid}
 use Rattle.at_world.specs.Events.{act_of, node_of}
@@ -30,6 +30,12 @@ use Rattle.at_world.proofs.CableTie.{Wire}
 use Rattle.at_world.proofs.Parts.Atp.OnWire.{AskWell, wired}
 use Rattle.at_world.proofs.Parts.Atp.Readings.{StaysAsked, all_stays, drawn_stays, still_reads}
 use Rattle.at_world.proofs.Parts.Atp.Tie.{Laws, Spelled, Stepped, HasTables, IsReading, AtpTie, moved}
+
+-- what a step is in words of transactions
+abbrev pub in_words : {A : Type 0} → AtpMachine → Event A → NodeState → NodeState → Report A
+    → List atp.Transaction → Change A
+in_words m e n x r ts =
+    record { asked = map wired m.asked; now_asked = ts; part = n.atp; now = x.atp; act = act_of e; report = r }
 
 -- the machine says this of an event, as a report that there is, and what it serves is spelled
 abbrev pub Allows : {A : Type 0} → Cable → AtpMachine → Event A → Report A → AtpMachine → Type 0

@@ -1,20 +1,18 @@
 -- What each kind of step of a node is in the machine.
-use Rattle.std.proofs.Common.{◌≡◌, ℕ, false, List, ◌∷◌, map, Some, refl, sym, ap, subst, ◌∙◌, arith}
+use Rattle.std.proofs.Common.{◌≡◌, ℕ, false, List, ◌∷◌, map, Some, refl, sym, ap, subst, ◌∙◌}
 use Rattle.std.specs.Prelude.{◌&&◌}
 use Rattle.std.proofs.lemmas.Bool.{false≢true, eq-eqb}
 use Rattle.at_ddp.specs.declared.address.Address.{Address}
 use Rattle.at_ddp.proofs.Octets.{same_address_itself}
 use Rattle.at_atp.specs.Transactions as atp
-use Rattle.at_zip.specs.Request.{RequestSpells}
-use Rattle.at_zip.specs.Tables.{Tables, AreTables, table_of, with_table}
-use Rattle.at_zip.specs.declared.request.TableChoice.{TableChoice}
+use Rattle.at_zip.specs.Tables.{Tables, AreTables, with_table}
 use Rattle.at_zone_socket.specs.AtpParts.{AtpState}
 use Rattle.at_transaction_socket.specs.TransactionSockets.{asking, serving}
 use Rattle.at_zone_socket.specs.ZoneSockets.{zones_at}
 use Rattle.at_node.specs.Nodes.{NodeState}
 use Rattle.at_event.specs.Kinds.{reporter_of}
 use Rattle.at_event.specs.declared.Call.TheVariants.{Transactions, Zones}
-use Rattle.at_event.specs.declared.transactions.TransactionCall.TheVariants.{Ask, Answer}
+use Rattle.at_event.specs.declared.transactions.TransactionCall.TheVariants.{Ask}
 use Rattle.at_event.specs.declared.zones.ZoneCall.TheVariants as zone
 use Rattle.at_event.specs.declared.Report.{Report}
 use Rattle.at_event.specs.declared.Report.TheVariants as report
@@ -22,49 +20,38 @@ use Rattle.at_event.specs.declared.transactions.TransactionReport.TheVariants as
 use Rattle.at_event.specs.declared.zones.ZoneReport.TheVariants as zip_report
 use Rattle.at_steps.specs.AtpHappenings.{sets_table, is_atp}
 use Rattle.at_steps.specs.AtpSteps as steps
-use Rattle.at_steps.specs.AtpSteps.{Change, IsPlain, BeginsAsking, SetsTable}
-use Rattle.at_steps.specs.AtpSteps.{GivesAnswer, ServesPage, HandsUp, Finishes}
-use Rattle.at_steps.specs.AtpSteps.{IsStep, page_answer}
-use Rattle.at_world.specs.Machine.AtpGuards.{AtpMachine, MayAskFor, StepBy, next}
+use Rattle.at_steps.specs.AtpSteps.{IsPlain, BeginsAsking, SetsTable}
+use Rattle.at_steps.specs.AtpSteps.{HandsUp, Finishes}
+use Rattle.at_steps.specs.AtpSteps.{IsStep}
+use Rattle.at_world.specs.Machine.AtpGuards.{AtpMachine, StepBy, next}
 use Rattle.at_world.specs.Agreements.{on_wire}
 use Rattle.at_world.specs.Cables.{Cable, IsSaid}
 use Rattle.at_world.specs.Events.{act_of, node_of}
 use Rattle.at_world.specs.Transactions.{ForService, Transaction, Asked, IsResponse, new_transaction, transaction_of}
-use Rattle.at_world.specs.Transactions.{answered}
 use Rattle.at_world.specs.Worlds.{WorldState, node_at}
 use Rattle.at_setup.specs.declared.event.Event.{Event}
 use Rattle.at_setup.specs.declared.event.Event.TheVariants as event
 use Rattle.at_world.proofs.Acts.{called_at, delivered_at}
 use Rattle.at_world.proofs.CableTie.{Wire}
-use Rattle.at_world.proofs.Parts.Atp.OnWire.{wired, answered_ask_well, answered_wired, asked_unwired, asks_service}
+use Rattle.at_world.proofs.Parts.Atp.OnWire.{wired, asked_unwired, asks_service}
 use Rattle.at_world.proofs.Parts.Atp.OnWire.{is_response, newest_asks_well, unwired}
-use Rattle.at_world.proofs.Parts.Atp.Readings.{all_stays, drawn_stays, joined_stays, may_ask}
+use Rattle.at_world.proofs.Parts.Atp.Readings.{all_stays, drawn_stays}
 use Rattle.at_world.proofs.Parts.Atp.Tie.{Laws, IsReading, AtpTie, Spelled, Stepped, moved}
-use Rattle.at_world.proofs.Parts.Atp.Staying.{Allows, so_at, plainly, plain_sets_none, still_mine, goes_by}
+use Rattle.at_world.proofs.Parts.Atp.Staying.{Allows, in_words, so_at, plainly, plain_sets_none, still_mine, goes_by}
 use Rattle.at_world.proofs.Parts.Atp.Staying.{nothing_asked}
 use Rattle.at_world.proofs.Parts.Atp.Staying.{still_theirs, StaysMine}
 use Rattle.at_world.proofs.Parts.Atp.ReadingSteps.{fails_step, reading_ends_step, reads_step, turns_step}
-use Rattle.std.proofs.lemmas.Option.{same_Some}
+use Rattle.at_world.proofs.Parts.Atp.AnswerSteps.{answers_step, serves_step}
 
 module _ (A : Type 0) (laws : Laws A) (w : WorldState) (cable : Cable) (m : AtpMachine) (wires : List Wire)
     (e : Event A) (n x : NodeState) (r : Report A) (t : AtpTie A w cable wires m)
     (stands : node_at w (node_of e) ≡ Some n)
     (keeps : sets_table r ≡ false → x.atp.zones.tables ≡ n.atp.zones.tables) where
-  -- what a step is in words of transactions
-  abbrev Changed : List atp.Transaction → Change A
-  Changed ts =
-      record { asked = map wired m.asked; now_asked = ts; part = n.atp; now = x.atp; act = act_of e; report = r }
-
-  -- a transaction that was asked, as the machine has it
-  its : (who : Address) (k : ℕ) (at : Address) (a : atp.Asked (map wired m.asked) who k at) →
-      (b : Asked m.asked who k at) × (a.transaction ≡ wired b.transaction)
-  its who k at a = asked_unwired m.asked who k at a
-
-  plain_step : (ts : List atp.Transaction) → IsPlain (Changed ts) → IsSaid e r × Stepped A cable m e x r ts
+  plain_step : (ts : List atp.Transaction) → IsPlain (in_words m e n x r ts) → IsSaid e r × Stepped A cable m e x r ts
   plain_step ts p = nothing_asked A laws w cable m wires e n x r t stands keeps ts p.asked p.reading
       (plain_sets_none (act_of e) r p.plain) (plainly A cable m e r p.plain)
 
-  delivers_step : (ts : List atp.Transaction) → HandsUp cable.net (node_of e) (Changed ts) → IsSaid e r
+  delivers_step : (ts : List atp.Transaction) → HandsUp cable.net (node_of e) (in_words m e n x r ts) → IsSaid e r
       × Stepped A cable m e x r ts
   delivers_step ts s = nothing_asked A laws w cable m wires e n x r t stands keeps ts s.asked s.reading
       (ap sets_table s.report)
@@ -75,7 +62,7 @@ module _ (A : Type 0) (laws : Laws A) (w : WorldState) (cable : Cable) (m : AtpM
     where
       mine : (b : Asked m.asked (s.key).from (s.key).tid (serving cable.net (node_of e)))
           × ((s.newest).transaction ≡ wired b.transaction)
-      mine = its (s.key).from (s.key).tid (serving cable.net (node_of e)) s.newest
+      mine = asked_unwired m.asked (s.key).from (s.key).tid (serving cable.net (node_of e)) s.newest
 
       asks : ((mine.0).transaction).asks ≡ ForService s.user s.bytes
       asks =
@@ -86,7 +73,7 @@ module _ (A : Type 0) (laws : Laws A) (w : WorldState) (cable : Cable) (m : AtpM
           (ap (λ (y : atp.Transaction). y.user) (sym mine.1) ∙ s.is_user)
           (ap (λ (y : atp.Transaction). y.data_) (sym mine.1) ∙ s.is_data)
 
-  ends_step : (ts : List atp.Transaction) → Finishes cable.net (node_of e) (Changed ts) → IsSaid e r
+  ends_step : (ts : List atp.Transaction) → Finishes cable.net (node_of e) (in_words m e n x r ts) → IsSaid e r
       × Stepped A cable m e x r ts
   ends_step ts s = nothing_asked A laws w cable m wires e n x r t stands keeps ts s.asked s.reading
       (ap sets_table s.report)
@@ -105,7 +92,7 @@ module _ (A : Type 0) (laws : Laws A) (w : WorldState) (cable : Cable) (m : AtpM
 
   -- ---- a table that is set
 
-  sets_step : (ts : List atp.Transaction) → SetsTable (Changed ts) → IsSaid e r × Stepped A cable m e x r ts
+  sets_step : (ts : List atp.Transaction) → SetsTable (in_words m e n x r ts) → IsSaid e r × Stepped A cable m e x r ts
   sets_step ts s = (
     allows.0,
     record {
@@ -156,104 +143,9 @@ module _ (A : Type 0) (laws : Laws A) (w : WorldState) (cable : Cable) (m : AtpM
           (called_at e (Zones (zone.Set s.which s.names)) s.act) s.report
           (tt, record { is_router = whole.1; is_table = s.is_table; becomes = refl }, tt)
 
-  -- ---- answers
-
-  answers_step : (ts : List atp.Transaction) → GivesAnswer cable.net (node_of e) (Changed ts) → IsSaid e r
-      × Stepped A cable m e x r ts
-  answers_step ts s =
-      goes_by A laws w cable m wires e n x r t stands keeps (answered m.asked s.key.from s.key.tid s.packets) ts
-      (s.asked ∙ answered_wired m.asked s.key.from s.key.tid s.packets)
-      (answered_ask_well m.asked s.key.from s.key.tid s.packets t.ask_well) s.reading (ap sets_table s.report)
-      (λ read server is. joined_stays m.tables m.asked s.key.from s.key.tid s.packets (asking cable.net (node_of e))
-      read.tid
-      (zones_at cable.net server) (elsewhere server))
-      (λ j tid server apart. joined_stays m.tables m.asked s.key.from s.key.tid s.packets (asking cable.net j) tid
-      (zones_at cable.net server) (elsewhere server))
-      (so_at A cable m (moved m m.tables (answered m.asked s.key.from s.key.tid s.packets) m.readings) e
-      (event.Call (node_of e) (Transactions (Answer s.key s.packets))) r
-      (report.Transactions (atp_report.Answered s.count))
-      (called_at e (Transactions (Answer s.key s.packets)) s.act) s.report
-      (tt, record { asked = mine.0; few = s.few; becomes = refl }, tt))
-    where
-      mine : (b : Asked m.asked (s.key).from (s.key).tid (serving cable.net (node_of e)))
-          × ((s.newest).transaction ≡ wired b.transaction)
-      mine = its (s.key).from (s.key).tid (serving cable.net (node_of e)) s.newest
-
-      -- what asked the service did not ask a router for its zones
-      elsewhere : (server : ℕ) (u : Transaction) → transaction_of m.asked s.key.from s.key.tid ≡ Some u → u.responder
-          ≡ zones_at cable.net server → (which : TableChoice) × (start : ℕ) × MayAskFor u.asks which start
-          × (s.packets ≡ page_answer (table_of which m.tables) start)
-      elsewhere server u is here =
-          let one = same_Some (mine.0).transaction u (sym (mine.0).newest ∙ is) in
-          let wrong : 129 ≡ 6 = ap (λ (y : Address). y.socket)
-          (sym (mine.0).asked_it ∙ ap (λ (y : Transaction). y.responder) one ∙ here) in
-          absurd (omega (arith, wrong))
-
-  serves_step : (ts : List atp.Transaction) → ServesPage cable.net (node_of e) (Changed ts) → IsSaid e r
-      × Stepped A cable m e x r ts
-  serves_step ts s =
-      goes_by A laws w cable m wires e n x r t stands keeps
-      (answered m.asked s.requester s.tid (page_answer table s.start)) ts
-      (s.asked ∙ ap (λ l. atp.answered (map wired m.asked) s.requester s.tid (page_answer
-      (table_of s.table l) s.start)) whole.0 ∙ answered_wired m.asked s.requester s.tid (page_answer table s.start))
-      (answered_ask_well m.asked s.requester s.tid (page_answer table s.start) t.ask_well) s.reading
-      (ap sets_table s.report)
-      (λ read server is. joined_stays m.tables m.asked s.requester s.tid (page_answer table s.start)
-      (asking cable.net (node_of e)) read.tid (zones_at cable.net server) (page server))
-      (λ j tid server apart. joined_stays m.tables m.asked s.requester s.tid (page_answer table s.start)
-      (asking cable.net j) tid (zones_at cable.net server) (page server))
-      (so_at A cable m (moved m m.tables (answered m.asked s.requester s.tid (page_answer table s.start)) m.readings)
-      e (event.Deliver s.datagram (node_of e)) r (report.Zones (zip_report.Served s.count))
-      (delivered_at e s.datagram s.act)
-      s.report (
-        tt,
-        record {
-          is_router = whole.1;
-          requester = s.requester;
-          tid = s.tid;
-          asked = mine.0;
-          which = s.table;
-          start = s.start;
-          asks_from = may;
-          one = s.one;
-          becomes = refl;
-        },
-        (
-          s.requester,
-          s.tid,
-          record { asked = mine.0; which = s.table; start = s.start; asks_from = spells; becomes = refl },
-        ),
-      ))
-    where
-      table : List (List ℕ)
-      table = table_of s.table m.tables
-
-      whole : (s.tables ≡ m.tables) × (cable.router ≡ Some (node_of e))
-      whole = t.tables (node_of e) n stands s.tables s.are_tables
-
-      mine : (b : Asked m.asked s.requester s.tid (zones_at cable.net (node_of e)))
-          × ((s.newest).transaction ≡ wired b.transaction)
-      mine = its s.requester s.tid (zones_at cable.net (node_of e)) s.newest
-
-      spells : RequestSpells (on_wire ((mine.0).transaction).asks).user s.table s.start
-      spells = subst (λ (y : atp.Transaction). RequestSpells y.user s.table s.start) mine.1 s.asks_from
-
-      may : MayAskFor ((mine.0).transaction).asks s.table s.start
-      may =
-          let u = (mine.0).transaction in
-          may_ask laws.reading u.asks u.responder
-          (newest_asks_well m.asked s.requester s.tid u t.ask_well (mine.0).newest) s.table s.start spells
-
-      page : (server : ℕ) (u : Transaction) → transaction_of m.asked s.requester s.tid ≡ Some u → u.responder
-          ≡ zones_at cable.net server → (which : TableChoice) × (start : ℕ) × MayAskFor u.asks which start
-          × (page_answer table s.start ≡ page_answer (table_of which m.tables) start)
-      page server u is here =
-          let one = same_Some (mine.0).transaction u (sym (mine.0).newest ∙ is) in
-          (s.table, s.start, subst (λ (y : Transaction). MayAskFor y.asks s.table s.start) one may, refl)
-
   -- ---- beginnings
 
-  begins_step : (ts : List atp.Transaction) → BeginsAsking cable.net (node_of e) (Changed ts) → IsSaid e r
+  begins_step : (ts : List atp.Transaction) → BeginsAsking cable.net (node_of e) (in_words m e n x r ts) → IsSaid e r
       × Stepped A cable m e x r ts
   begins_step ts s =
       goes_by A laws w cable m wires e n x r t stands keeps (new ∷ m.asked) ts s.asked (tt, t.ask_well) s.reading
@@ -275,12 +167,12 @@ module _ (A : Type 0) (laws : Laws A) (w : WorldState) (cable : Cable) (m : AtpM
   -- ---- each of them
 
   pub step_becomes : n.seat.router ≡ cable.router → (ts : List atp.Transaction)
-      → IsStep cable.net (node_of e) n.seat.router (Changed ts) → IsSaid e r × Stepped A cable m e x r ts
+      → IsStep cable.net (node_of e) n.seat.router (in_words m e n x r ts) → IsSaid e r × Stepped A cable m e x r ts
   step_becomes routed ts (steps.Plain s) = plain_step ts s
   step_becomes routed ts (steps.Begins s) = begins_step ts s
   step_becomes routed ts (steps.Reads s) = reads_step A laws w cable m wires e n x r t stands keeps routed ts s
-  step_becomes routed ts (steps.Answers s) = answers_step ts s
-  step_becomes routed ts (steps.Serves s) = serves_step ts s
+  step_becomes routed ts (steps.Answers s) = answers_step A laws w cable m wires e n x r t stands keeps ts s
+  step_becomes routed ts (steps.Serves s) = serves_step A laws w cable m wires e n x r t stands keeps ts s
   step_becomes routed ts (steps.Delivers s) = delivers_step ts s
   step_becomes routed ts (steps.Ends s) = ends_step ts s
   step_becomes routed ts (steps.Sets s) = sets_step ts s

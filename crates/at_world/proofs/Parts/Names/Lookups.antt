@@ -2,7 +2,7 @@
 use Rattle.std.proofs.Common.{◌≡◌, ℕ, ◌+◌, Bool, true, false, cond, List, [], ◌∷◌, find, Option, Some, None, refl, sym}
 use Rattle.std.proofs.Common.{ap, subst, ◌∙◌}
 use Rattle.std.specs.Prelude.{filter, not, ◌==◌, ◌&&◌}
-use Rattle.std.proofs.lemmas.Bool.{true≢false, and_parts, eq-eqb, eqb-true}
+use Rattle.std.proofs.lemmas.Bool.{true≢false, and_parts, eq-eqb, eqb-true, and_left, and_right}
 use Rattle.at_ddp.specs.Address.{same_address}
 use Rattle.at_nbp.specs.Lookups.{asked}
 use Rattle.at_nbp.specs.Network.{Begun, newest}
@@ -63,14 +63,6 @@ found_filtered k id j other (l ∷ ls) apart = go (found_filtered k id j other l
             ≡ cond b (Some l) (find (is_lookup j other) ls)
         gone true f = absurd (true≢false (sym e ∙ apart l f))
         gone false f = refl
-
-both_false : (a b : Bool) → a ≡ false → (a && b) ≡ false
-both_false true b h = absurd (true≢false h)
-both_false false b h = refl
-
-right_false : (a b : Bool) → b ≡ false → (a && b) ≡ false
-right_false true b h = h
-right_false false b h = refl
 
 -- a lookup of another node, or under another identifier
 apart_by : (k id j other : ℕ) → ((k == j) && (id == other)) ≡ false → (l : OpenLookup) → is_lookup j other l ≡ true
@@ -158,8 +150,8 @@ module _ (net event since : ℕ) (ls : List OpenLookup) (k : ℕ) (change : Chan
     where
       another : (c : Change) → IsAnother c k j id
       another Stays = tt
-      another (Opens opened pattern claim) = both_false (k == j) (opened == id) apart
-      another (Closes ended) = both_false (k == j) (ended == id) apart
+      another (Opens opened pattern claim) = and_left (k == j) (opened == id) apart
+      another (Closes ended) = and_left (k == j) (ended == id) apart
 
 -- the lookup that opens
 opens : (net event since : ℕ) (ls : List OpenLookup) (k id : ℕ) (pattern : Name) (claim : Option Claim)
@@ -202,11 +194,11 @@ of_node net event since ls k (Opens new pattern claim) d before now is drawn beg
         (record { pattern = asked pattern; claim = claim })) (eqb-true new id e)
         (opens net event since ls k new pattern claim d before now is drawn begins)
     go false e = kept net event since ls k (Opens new pattern claim) d before now drawn begins k id (opened id)
-        (right_false (k == k) (new == id) e) (known id)
+        (and_right (k == k) (new == id) e) (known id)
 of_node net event since ls k (Closes ended) d before now is drawn begins opened known id = go (ended == id) refl
   where
     go : (b : Bool) → (ended == id) ≡ b
         → Known net (lookups_after ls since k (Closes ended)) now k id (cond b None (opened id))
     go true e = tt
     go false e = kept net event since ls k (Closes ended) d before now drawn begins k id (opened id)
-        (right_false (k == k) (ended == id) e) (known id)
+        (and_right (k == k) (ended == id) e) (known id)

@@ -1,8 +1,8 @@
 -- What each kind of step of a node is to the machine of streams.
 use Rattle.std.proofs.Common.{◌≡◌, ℕ, ◌+◌, ◌≤◌, Bool, true, false, cond, List, [], ◌∷◌, ◌++◌, length, Option, Some}
 use Rattle.std.proofs.Common.{None, Result, Ok, Err, refl, sym, ap, subst, ◌∙◌, arith}
-use Rattle.std.specs.Prelude.{find, nat_le, nat_lt, ◌||◌, take}
-use Rattle.std.proofs.lemmas.Bool.{false≢true, ltb-false}
+use Rattle.std.specs.Prelude.{find, take}
+use Rattle.std.proofs.lemmas.Bool.{false≢true}
 use Rattle.std.proofs.lemmas.List.{length-append, length-map}
 use Rattle.at_ddp.specs.declared.address.Address.{Address}
 use Rattle.at_adsp.specs.Cables.{few_segments}
@@ -48,6 +48,7 @@ use Rattle.at_world.proofs.Acts.{called_at, delivered_at}
 use Rattle.at_world.proofs.CableTie.{CableTie, spelled_wire}
 use Rattle.at_world.proofs.Parts.Streams.Next.{moved}
 use Rattle.at_world.proofs.Parts.Streams.Tie.{StreamLaws, StreamTie}
+use Rattle.at_world.proofs.WorldLemmas.{few_datagrams}
 
 -- the machine says this of an event
 abbrev pub Allows : {A : Type 0} → Cable → Sessions → StreamMachine → Event A → Report A → StreamMachine → Type 0
@@ -129,15 +130,6 @@ reads_one setting n at id count = go (read_at setting.numbers (n.tables at) coun
         length-append n.sent (stamped n.event at d.sent) in
         let more : length (stamped n.event at d.sent) ≡ length d.sent = length-map d.sent _ in
         omega (arith, little, all, more)
-
--- fewer datagrams were sent than would end the play
-few_sent : (w : WorldState) → is_over w ≡ false → length w.sent ≤ 868928
-few_sent w runs = go (nat_le 200000 w.events) (nat_lt 868928 (length w.sent)) refl runs
-  where
-    go : (a b : Bool) → nat_lt 868928 (length w.sent) ≡ b → (a || b) ≡ false → length w.sent ≤ 868928
-    go true b e h = absurd (cc)
-    go false true e h = absurd (cc)
-    go false false e h = ltb-false 868928 (length w.sent) e
 
 -- what this event reads reads from a peer, once all that was read was written in order
 abbrev pub ReadsAt : (A : Type 0) (w : WorldState) (c : Cable) (m : StreamMachine) (ct : CableTie w c)
@@ -231,7 +223,7 @@ module _ (A : Type 0) (laws : StreamLaws A) (w : WorldState) (c : Cable) (ss : S
   in_order : (id count : ℕ) → ReadsInOrder (after t.setting (Reads at id count ∷ t.history))
   in_order id count =
       let one = reads_one t.setting (after t.setting t.history) at id count in
-      let before = few_sent w runs in
+      let before = few_datagrams w runs in
       let wires : length w.sent ≡ length ct.wires = ap length ct.sent ∙ length-map ct.wires spelled_wire in
       let entries = as_many stream_coding ct.wires (after t.setting t.history).sent t.sent in
       let few : length (done t.setting (after t.setting t.history) (Reads at id count)).sent ≤ few_segments =
