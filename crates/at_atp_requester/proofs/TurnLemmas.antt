@@ -1,15 +1,17 @@
 -- What a packet does that ends an at-least-once transaction.
 use Rattle.std.proofs.Common.{◌≡◌, ℕ, ◌<◌, Bool, true, false, List, [], length, Option, Some, None, Result, Ok, Err}
-use Rattle.std.proofs.Common.{refl, sym, ap, ◌∙◌}
+use Rattle.std.proofs.Common.{refl, sym, ap, subst, ◌∙◌}
 use Rattle.std.specs.Prelude.{find, remove, IfOk, not, ◌&&◌}
 use Rattle.std.specs.List.{position_from}
 use Rattle.std.proofs.lemmas.Bool.{false≢true, and_parts, not-true}
 use Rattle.at_ddp.specs.declared.address.Address.{Address}
 use Rattle.at_atp_frame.specs.Packets.{Packet}
 use Rattle.at_atp_requester.specs.Answers.{AnswerPart, is_wanted, whole, with_part}
-use Rattle.at_atp_frame.specs.Frames.{Content, Response}
+use Rattle.at_atp_frame.specs.Frames.{Content, Release, Request, Response}
+use Rattle.at_atp_requester.specs.Endings.{Ends}
+use Rattle.at_atp_requester.specs.declared.turning.Ending.{Ending}
 use Rattle.at_atp_requester.specs.Requests.{NumbersDiffer, Transaction, Requests, is_numbered, is_of, next_number}
-use Rattle.at_atp_requester.specs.Requests.{beginning, is_at_least_once}
+use Rattle.at_atp_requester.specs.Requests.{beginning}
 use Rattle.at_atp_requester.specs.Requests.{came, came_for, was_kept, is_finished, heard, finishes}
 use Rattle.at_atp_requester.specs.declared.progress.RequestProgress.TheVariants.{Finished}
 use Rattle.at_atp_requester.proofs.AnswerLemmas.{wanted-within}
@@ -49,14 +51,6 @@ ended A t place part sts not_xo h = wants (is_wanted t.parts place) refl sts h
     wants true is s g = kept (whole (with_part t.parts place part)) refl is s g
     wants false is true g = absurd (false≢true g)
     wants false is false g = absurd (false≢true g)
-
--- there is a transaction for a packet that ends one
-pub finishes_some : (A : Type 0) (r : Requests) (from : Address) (place : ℕ) (eom sts : Bool) (tid : ℕ)
-    (user bytes : List ℕ) →
-    finishes A r from (Response place eom sts tid user bytes) ≡ true → find (is_of tid from) r.standing ≡ None → ⊥
-finishes_some A r from place eom sts tid user bytes h none =
-    false≢true (ap (λ o. is_at_least_once o
-    && is_finished (heard {A = A} r from (Response place eom sts tid user bytes)).step) (sym none) ∙ h)
 
 -- whether a packet ends the transaction that it came for
 pub finishes_at : (A : Type 0) (r : Requests) (from : Address) (place : ℕ) (eom sts : Bool) (tid : ℕ)
@@ -127,3 +121,24 @@ drawn_next r tid (Err e) to user retries drawn is = is
 pub gone_at : (r : Requests) (tid : ℕ) (from : Address) (i : ℕ) (f : Found (is_of tid from) r.standing i)
     → NumbersDiffer r.standing → without_first (is_numbered tid) r.standing ≡ remove r.standing i
 gone_at r tid from i f differ = sym (same_gone r.standing tid from f.entry differ f.first) ∙ f.gone_is
+
+-- the transaction that is said to end is there, and ends
+pub it_ends : (A : Type 0) (r : Requests) (from : Address) (packet : Content) (e : Ending) → Ends A r from packet e
+    → EndsAt A r from packet e.tid e.index
+it_ends A r from (Response place eom sts tid user bytes) e it =
+    ends_at A r from (Response place eom sts tid user bytes) place eom sts e.tid user bytes e.index
+    (ap (λ n. Response place eom sts n user bytes) it.number) it.finishes_it it.place
+it_ends A r from (Request mask xo timer tid user bytes) e it = absurd (false≢true it.finishes_it)
+it_ends A r from (Release tid) e it = absurd (false≢true it.finishes_it)
+
+-- the same of a requester that is given by its fields
+pub it_ends_in : (A : Type 0) (r now : Requests) (from : Address) (packet : Content) (e : Ending) → r ≡ now
+    → Ends A now from packet e → EndsAt A r from packet e.tid e.index
+it_ends_in A r now from packet e is it =
+    it_ends A r from packet e (subst (λ (x : Requests). Ends A x from packet e) (sym is) it)
+
+pub left_by : (A : Type 0) (r now : Requests) (from : Address) (packet : Content) (tid i : ℕ) → r ≡ now
+    → EndsAt A r from packet tid i
+    → (heard {A = A} now from packet).after ≡ record { next = r.next; standing = remove r.standing i }
+left_by A r now from packet tid i is e =
+    ap (λ (x : Requests). (heard {A = A} x from packet).after) (sym is) ∙ ap (λ h. h.after) e.came

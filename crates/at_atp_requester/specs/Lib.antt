@@ -1,5 +1,6 @@
 pub mod Answers
 pub mod Arriving
+pub mod Endings
 pub mod Requests
 pub mod Standing
 pub mod Wholes

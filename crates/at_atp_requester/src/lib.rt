@@ -12,3 +12,4 @@ mod turning;
 
 pub use progress::{RequestProgress, Retry};
 pub use requester::Requester;
+pub use turning::Ending;

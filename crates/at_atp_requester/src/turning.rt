@@ -3,8 +3,10 @@
 ghost use Rattle.std.specs.Prelude.{◌≡◌, ◌∷◌, [], true, false, is_some, Some, IfSome, IfOk, OnErr};
 ghost use Rattle.std.specs.Prelude.{IsSome};
 ghost use Rattle.at_ddp.specs.Sending.{Sends};
-ghost use Rattle.at_atp_frame.specs.Frames.{Response, content, spelled};
+ghost use Rattle.at_ddp.specs.declared.address.Address.{Address as From};
+ghost use Rattle.at_atp_frame.specs.Frames.{Content, Response, content, spelled};
 ghost use Rattle.at_atp_requester.specs.Requests.{closing, next_number, beginning, begun, request_by};
+ghost use Rattle.at_atp_requester.specs.Endings.{Ends};
 ghost use Rattle.at_atp_requester.specs.Requests.{finishes, has_number, heard, is_response};
 
 use crate::numbers::next_of;
@@ -15,54 +17,62 @@ use at_atp_frame::{Frame, send};
 use at_ddp::{Address, Outbox};
 use std::alloc::{AllocError, Allocator};
 
+/// The open transaction that a packet ends, until the requester changes.
+#[derive(Clone, Copy)]
+pub struct Ending {
+    // Its place among the open ones.
+    index: usize,
+    tid: u16,
+}
+
 impl<A: Allocator + Copy> Requester<A> {
-    /// Whether this packet from this address would end an at-least-once transaction.
-    pub fn finishes(&self, from: Address, frame: &Frame<'_>) -> bool
-        ensures ends { result ≡ finishes A self.now from (content frame.now) }
+    /// The at-least-once transaction that this packet from this address would end, if it ends one.
+    pub fn ending(&self, from: Address, frame: &Frame<'_>) -> Option<Ending>
+        ensures ends { is_some result ≡ finishes A self.now from (content frame.now) }
+        ensures place { IfSome result (λ e. Ends A self.now from (content frame.now) e) }
 
         // Then a number is free for the next one.
         ensures free { finishes A self.now from (content frame.now) ≡ true
             → IsSome (next_number (heard {A = A} self.now from (content frame.now)).after) }
     {
-        let Some((tid, arriving)) = answer_in(frame) else {
-            return false;
-        };
-        match index_of(&self.standing, tid, from) {
-            None => false,
-            Some(index) => {
-                let transaction = self.standing.at(index);
-                transaction.would_end(arriving.sequence_number, arriving.eom)
-            }
+        let (tid, arriving) = answer_in(frame)?;
+        let index = index_of(&self.standing, tid, from)?;
+        let transaction = self.standing.at(index);
+        if transaction.would_end(arriving.sequence_number, arriving.eom) {
+            Some(Ending { index, tid })
+        } else {
+            None
         }
     }
 
-    /// Takes a packet that ends an at-least-once transaction, and keeps nothing of the answer. Nothing is sent, and
-    /// this needs no memory.
-    pub fn close(&mut self, from: Address, frame: &Frame<'_>)
-        requires { finishes A self.old from (content frame.now) ≡ true }
-        ensures state { self.new ≡ (heard {A = A} self.old from (content frame.now)).after }
-        ensures silent { (heard {A = A} self.old from (content frame.now)).sent ≡ [] }
+    /// Takes the packet that ends this transaction, and keeps nothing of the answer. Nothing is sent, and this needs no
+    /// memory.
+    pub fn close(&mut self, ending: Ending)
+        requires { (from : From) × (packet : Content) × Ends A self.old from packet ending }
+        ensures state { (from : From) (packet : Content) → Ends A self.old from packet ending
+            → self.new ≡ (heard {A = A} self.old from packet).after }
+        ensures silent { (from : From) (packet : Content) → Ends A self.old from packet ending
+            → (heard {A = A} self.old from packet).sent ≡ [] }
     {
-        let (tid, _arriving) = answer_in(frame).unwrap();
-        let index = index_of(&self.standing, tid, from).unwrap();
-        self.room = self.standing.remove(index).into_room();
+        self.room = self.standing.remove(ending.index).into_room();
     }
 
-    /// Takes a packet that ends an at-least-once transaction, keeps nothing of the answer, and begins the next
+    /// Takes the packet from this address that ends this transaction, keeps nothing of the answer, and begins the next
     /// transaction. That one asks the same address for one packet, at least once and without data. Returns its number.
     /// If memory runs out, the packet is not taken either.
     pub fn turn(
         &mut self,
+        ending: Ending,
         from: Address,
-        frame: &Frame<'_>,
         user: [u8; 4],
         retries: u8,
         out: &mut Outbox<A>,
     ) -> Result<u16, AllocError>
-        requires { finishes A self.old from (content frame.now) ≡ true }
-        ensures drawn { IfOk result (λ tid. next_number (heard {A = A} self.old from (content frame.now)).after
-            ≡ Some tid) }
-        ensures state { IfOk result (λ tid. self.new ≡ begun (heard {A = A} self.old from (content frame.now)).after
+        requires { (packet : Content) × Ends A self.old from packet ending }
+        ensures drawn { IfOk result (λ tid. (packet : Content) → Ends A self.old from packet ending
+            → next_number (heard {A = A} self.old from packet).after ≡ Some tid) }
+        ensures state { IfOk result (λ tid. (packet : Content) → Ends A self.old from packet ending
+            → self.new ≡ begun (heard {A = A} self.old from packet).after
             (beginning tid from user [] 1 false retries)) }
 
         // An at-least-once transaction sends no release at its end.
@@ -71,12 +81,10 @@ impl<A: Allocator + Copy> Requester<A> {
         ensures unchanged { OnErr result (self.new ≡ self.old) }
         ensures nothing_sent { OnErr result (Sends out.old out.new []) }
     {
-        let (ended, _arriving) = answer_in(frame).unwrap();
-        let index = index_of(&self.standing, ended, from).unwrap();
-        let next = self.following(ended, from, user, retries)?;
+        let next = self.following(ending.tid, from, user, retries)?;
         self.standing.reserve()?;
         send(out, from, &next.request())?;
-        let number = pass_on(&mut self.standing, index, next);
+        let number = pass_on(&mut self.standing, ending.index, next);
         self.next = number.wrapping_add(1);
         Ok(number)
     }

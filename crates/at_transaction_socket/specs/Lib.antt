@@ -1,3 +1,4 @@
+pub mod LastPackets
 pub mod RequesterSocket
 pub mod Responders
 pub mod ServiceSocket

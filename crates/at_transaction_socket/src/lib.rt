@@ -17,3 +17,4 @@ pub use requester_socket::{Question, tid_of};
 pub use responders::{answer, hear, release};
 pub use service_socket::SERVICE_SOCKET;
 pub use transaction_socket::{REQUESTER_SOCKET, TransactionSocket};
+pub use users::LastPacket;

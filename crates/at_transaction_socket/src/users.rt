@@ -1,21 +1,30 @@
-//! What any user of transactions does with the socket that asks: it begins one, asks whether a packet ends it, takes
+//! What any user of transactions does with the socket that asks: it begins one, finds the one that a packet ends, takes
 //! that packet, or takes it and begins the next one in one step, and learns of a retry that its transaction failed.
 ghost use Rattle.std.specs.Prelude.{◌≡◌, ◌≢◌, ◌↔◌, ◌<◌, ◌≤◌, length, ◌++◌, ◌∷◌, [], map, None, Some};
-ghost use Rattle.std.specs.Prelude.{IfOk, IfErr, IfSome, IsOk, IsSome, OnErr, IsErrOf, true, false};
+ghost use Rattle.std.specs.Prelude.{IfOk, IfErr, IfSome, IsOk, IsSome, OnErr, IsErrOf, is_some, false};
 ghost use Rattle.at_ddp.specs.Protocols.{atp_kind};
 ghost use Rattle.at_atp_frame.specs.Frames.{content, spelled, spelled_all};
 ghost use Rattle.at_atp_requester.specs.Requests.{Retried, next_number, beginning, begun, finishes, request_by};
 ghost use Rattle.at_atp_requester.specs.Requests.{heard, retried};
+ghost use Rattle.at_transaction_socket.specs.LastPackets.{IsLast};
 ghost use Rattle.at_transaction_socket.specs.TransactionSockets.{asking};
 ghost use Rattle.at_event.specs.Outcomes.{posted, sent_by};
 
 use crate::incoming::Incoming;
 use crate::requester_socket::Question;
 use crate::transaction_socket::{REQUESTER_SOCKET, TransactionSocket};
-use at_atp::{AtpFault, Retry};
+use at_atp::{AtpFault, Ending, Retry};
 use at_ddp::{ATP, Outbox};
 use at_event::Seat;
 use std::alloc::{AllocError, Allocator};
+
+/// A packet that ends an open transaction, until the sockets change.
+#[derive(Clone, Copy)]
+pub struct LastPacket<'a> {
+    pub packet: Incoming<'a>,
+    // The transaction that it ends.
+    ending: Ending,
+}
 
 impl<A: Allocator + Copy> TransactionSocket<A> {
     /// Begins a transaction, and sends its request. Returns its number.
@@ -63,54 +72,66 @@ impl<A: Allocator + Copy> TransactionSocket<A> {
             .begin(to, user, bytes, wanted, exactly_once, retries, out)
     }
 
-    /// Whether a packet would end its transaction, which is at-least-once.
-    pub fn finishes(&self, packet: &Incoming<'_>) -> bool
-        ensures ends { result ≡ finishes A self.now.requester packet.now.from (content packet.now.frame) }
+    /// The packet with the at-least-once transaction that it would end, if it ends one.
+    pub fn ending<'a>(&self, packet: &Incoming<'a>) -> Option<LastPacket<'a>>
+        ensures ends { is_some result ≡ finishes A self.now.requester packet.now.from (content packet.now.frame) }
+        ensures last { IfSome result (λ l. IsLast A self.now.requester l) }
+        ensures same { IfSome result (λ l. l.packet ≡ packet.now) }
 
         // Then a number is free for the next one.
-        ensures free { result ≡ true → IsSome (next_number
+        ensures free { IsSome result → IsSome (next_number
             (heard {A = A} self.now.requester packet.now.from (content packet.now.frame)).after) }
     {
-        self.requester.finishes(packet.from, &packet.frame)
+        let ending = self.requester.ending(packet.from, &packet.frame)?;
+        Some(LastPacket {
+            packet: *packet,
+            ending,
+        })
     }
 
     /// Takes the packet that ends a transaction, and keeps nothing of the answer. This needs no memory.
-    pub fn close(&mut self, packet: &Incoming<'_>)
-        requires { finishes A self.old.requester packet.now.from (content packet.now.frame) ≡ true }
+    pub fn close(&mut self, last: &LastPacket<'_>)
+        requires { IsLast A self.old.requester last.now }
         ensures state { self.new ≡ record self.old {
-          requester = (heard {A = A} self.old.requester packet.now.from (content packet.now.frame)).after;
+          requester = (heard {A = A} self.old.requester last.now.packet.from (content last.now.packet.frame)).after;
         } }
-        ensures silent { (heard {A = A} self.old.requester packet.now.from (content packet.now.frame)).sent ≡ [] }
+        ensures silent { (heard {A = A} self.old.requester last.now.packet.from
+            (content last.now.packet.frame)).sent ≡ [] }
     {
-        self.requester.close(packet.from, &packet.frame);
+        self.requester.close(last.ending);
     }
 
     /// Takes the packet that ends a transaction, and begins the next one with these user bytes in the same step. It
     /// asks the same address for one packet, at least once. Returns its number.
     pub fn turn(
         &mut self,
-        packet: &Incoming<'_>,
+        last: &LastPacket<'_>,
         user: [u8; 4],
         retries: u8,
         out: &mut Outbox<A>,
     ) -> Result<u16, AllocError>
-        requires { finishes A self.old.requester packet.now.from (content packet.now.frame) ≡ true }
-        ensures drawn { IfOk result (λ tid. next_number
-            (heard {A = A} self.old.requester packet.now.from (content packet.now.frame)).after ≡ Some tid) }
+        requires { IsLast A self.old.requester last.now }
+        ensures drawn { IfOk result (λ tid. next_number (heard {A = A} self.old.requester last.now.packet.from
+            (content last.now.packet.frame)).after ≡ Some tid) }
         ensures state { IfOk result (λ tid. self.new ≡ record self.old {
-          requester = begun (heard {A = A} self.old.requester packet.now.from (content packet.now.frame)).after
-              (beginning tid packet.now.from user [] 1 false retries);
+          requester = begun
+              (heard {A = A} self.old.requester last.now.packet.from (content last.now.packet.frame)).after
+              (beginning tid last.now.packet.from user [] 1 false retries);
         }) }
         ensures sent { IfOk result
             (λ tid. out.new.items ≡ out.old.items ++ map posted
-            (sent_by (asking packet.now.seat.net packet.now.seat.number) atp_kind
-            ((packet.now.from, spelled (request_by (beginning tid packet.now.from user [] 1 false retries))) ∷ []))) }
+            (sent_by (asking last.now.packet.seat.net last.now.packet.seat.number) atp_kind
+            ((
+              last.now.packet.from,
+              spelled (request_by (beginning tid last.now.packet.from user [] 1 false retries)),
+            ) ∷ []))) }
         ensures unchanged { OnErr result (self.new ≡ self.old) }
         ensures nothing_sent { OnErr result (out.new.items ≡ out.old.items) }
     {
+        let packet = &last.packet;
         out.send_from(packet.seat.at(REQUESTER_SOCKET), ATP);
         self.requester
-            .turn(packet.from, &packet.frame, user, retries, out)
+            .turn(last.ending, packet.from, user, retries, out)
     }
 
     /// Sends the request of this number again. If no retry is left, its transaction is closed, and its user is to learn

@@ -84,8 +84,8 @@ impl<A: Allocator + Copy> AtpPart<A> {
             return self.transactions.hear_other(packet, out);
         };
         match self.zones.take_reading(packet, &self.transactions) {
-            Some(reading) => self.zones.hear_page(
-                packet,
+            Some((reading, last)) => self.zones.hear_page(
+                &last,
                 reading,
                 user,
                 data_,

@@ -4,9 +4,10 @@ ghost use Rattle.std.specs.Prelude.{◌≡◌, ◌≢◌, ◌++◌, List, ℕ, N
 ghost use Rattle.std.specs.Prelude.{IfSome, IsSome, true, false};
 ghost use Rattle.at_ddp.specs.Outbox.{Posted};
 ghost use Rattle.at_atp_frame.specs.Frames.{content};
-ghost use Rattle.at_atp_requester.specs.Requests.{finishes, heard, next_number};
+ghost use Rattle.at_atp_requester.specs.Requests.{heard, next_number};
 ghost use Rattle.at_event.specs.Outcomes.{Comes, IsStep, wants_memory};
 ghost use Rattle.at_event.specs.Services.{is_asked};
+ghost use Rattle.at_transaction_socket.specs.LastPackets.{IsLast};
 ghost use Rattle.at_transaction_socket.specs.TransactionSockets.{packet_in};
 ghost use Rattle.at_zone_socket.specs.AtpHearing.{AtRequester};
 ghost use Rattle.at_zone_socket.specs.AtpParts.{both};
@@ -21,7 +22,7 @@ use crate::zone_reading::{RETRIES, ZoneReading};
 use crate::zone_socket::ZoneSocket;
 use at_ddp::{Listed, Outbox, Pascal};
 use at_event::{Report, TransactionReport, ZoneReport};
-use at_transaction_socket::{Incoming, TransactionSocket};
+use at_transaction_socket::{LastPacket, TransactionSocket};
 use at_zip::{PageView, ZipFault, read_page, request_user};
 use std::alloc::{AllocError, Allocator};
 use std::mem;
@@ -30,7 +31,7 @@ impl<A: Allocator + Copy> ZoneSocket<A> {
     // Takes the page that the reading asked for.
     pub(crate) fn hear_page(
         &mut self,
-        packet: &Incoming<'_>,
+        last: &LastPacket<'_>,
         reading: ZoneReading<A>,
         user: [u8; 4],
         bytes: &[u8],
@@ -39,39 +40,40 @@ impl<A: Allocator + Copy> ZoneSocket<A> {
         out: &mut Outbox<A>,
     ) -> Report<A>
         requires page { is_page A (both transactions.old (record self.old { reading = Some (reading_of reading) }))
-            packet.now.from (content packet.now.frame) ≡ true }
+            last.now.packet.from (content last.now.packet.frame) ≡ true }
         requires free { IsSome (next_number
-            (heard {A = A} transactions.old.requester packet.now.from (content packet.now.frame)).after) }
-        requires packet { packet_in (content packet.now.frame) ≡ record { user = user; data_ = bytes.now } }
+            (heard {A = A} transactions.old.requester last.now.packet.from (content last.now.packet.frame)).after) }
+        requires last { IsLast A transactions.old.requester last.now }
+        requires packet { packet_in (content last.now.packet.frame) ≡ record { user = user; data_ = bytes.now } }
         ensures comes { let before = both transactions.old (record self.old { reading = Some (reading_of reading) }) in
-            Comes (AtRequester packet.now.seat before packet.now.from (content packet.now.frame)) before
+            Comes (AtRequester last.now.packet.seat before last.now.packet.from (content last.now.packet.frame)) before
             out.old.items result (both transactions.new self.new) out.new.items }
         ensures not_asked { is_asked result ≡ false }
         ensures listed { (which : Table) (names : List (List ℕ)) → result ≡ Report.Zones (ZoneReport.List which names)
             → list.new ≡ Some names }
     {
         match read_page(user, bytes) {
-            Ok(page) => self.hear_names(packet, reading, &page, transactions, list, out),
-            Err(fault) => self.end_reading(packet, transactions, zone_fault(fault)),
+            Ok(page) => self.hear_names(last, reading, &page, transactions, list, out),
+            Err(fault) => self.end_reading(last, transactions, zone_fault(fault)),
         }
     }
 
     // Takes the names of a page: the reading ends with them, or asks for the next page.
     fn hear_names(
         &mut self,
-        packet: &Incoming<'_>,
+        last: &LastPacket<'_>,
         mut reading: ZoneReading<A>,
         page: &PageView<'_>,
         transactions: &mut TransactionSocket<A>,
         list: &mut Option<Listed<Pascal, A>>,
         out: &mut Outbox<A>,
     ) -> Report<A>
-        requires finishes { finishes A transactions.old.requester packet.now.from (content packet.now.frame) ≡ true }
+        requires last { IsLast A transactions.old.requester last.now }
         requires free { IsSome (next_number
-            (heard {A = A} transactions.old.requester packet.now.from (content packet.now.frame)).after) }
+            (heard {A = A} transactions.old.requester last.now.packet.from (content last.now.packet.frame)).after) }
         ensures comes { let before = both transactions.old (record self.old { reading = Some (reading_of reading) }) in
-            Comes (TakesPage packet.now.seat before
-            (heard transactions.old.requester packet.now.from (content packet.now.frame)) packet.now.from
+            Comes (TakesPage last.now.packet.seat before
+            (heard transactions.old.requester last.now.packet.from (content last.now.packet.frame)) last.now.packet.from
             reading.reader.names page.now) before out.old.items result (both transactions.new self.new)
             out.new.items }
         ensures not_asked { is_asked result ≡ false }
@@ -80,9 +82,9 @@ impl<A: Allocator + Copy> ZoneSocket<A> {
     {
         let fault = match reading.reader.room(page) {
             Ok(()) if page.is_last() => {
-                return self.finish(packet, reading, page, transactions, list);
+                return self.finish(last, reading, page, transactions, list);
             }
-            Ok(()) => return self.ask_on(packet, reading, page, transactions, out),
+            Ok(()) => return self.ask_on(last, reading, page, transactions, out),
             Err(fault) => fault,
         };
         match fault {
@@ -90,24 +92,24 @@ impl<A: Allocator + Copy> ZoneSocket<A> {
                 self.reading = Some(reading);
                 Report::NoMemory
             }
-            fault => self.end_reading(packet, transactions, zone_fault(fault)),
+            fault => self.end_reading(last, transactions, zone_fault(fault)),
         }
     }
 
     // Takes the packet with the last page of a reading, and tells all names. They are copied before anything changes.
     fn finish(
         &mut self,
-        packet: &Incoming<'_>,
+        last: &LastPacket<'_>,
         reading: ZoneReading<A>,
         page: &PageView<'_>,
         transactions: &mut TransactionSocket<A>,
         list: &mut Option<Listed<Pascal, A>>,
     ) -> Report<A>
         requires room { HasRoomFor reading.reader page.now }
-        requires finishes { finishes A transactions.old.requester packet.now.from (content packet.now.frame) ≡ true }
+        requires last { IsLast A transactions.old.requester last.now }
         ensures step { let before = both transactions.old (record self.old { reading = Some (reading_of reading) }) in
-            (items : List Posted) → IsStep (reading_ends packet.now.seat before
-            (heard transactions.old.requester packet.now.from (content packet.now.frame))
+            (items : List Posted) → IsStep (reading_ends last.now.packet.seat before
+            (heard transactions.old.requester last.now.packet.from (content last.now.packet.frame))
             (Report.Zones (ZoneReport.List reading.which (reading.reader.names ++ page.now.names)))) before items
             result (both transactions.new self.new) items }
         ensures not_asked { is_asked result ≡ false }
@@ -120,7 +122,7 @@ impl<A: Allocator + Copy> ZoneSocket<A> {
             return Report::NoMemory;
         };
         *list = Some(copy);
-        transactions.close(packet);
+        transactions.close(last);
         self.reading = None;
         let ZoneReading { which, reader, .. } = reading;
         let names = reader.into_list(page);
@@ -130,19 +132,19 @@ impl<A: Allocator + Copy> ZoneSocket<A> {
     // Takes the packet with a page of a reading, and asks for the next one.
     fn ask_on(
         &mut self,
-        packet: &Incoming<'_>,
+        last: &LastPacket<'_>,
         mut reading: ZoneReading<A>,
         page: &PageView<'_>,
         transactions: &mut TransactionSocket<A>,
         out: &mut Outbox<A>,
     ) -> Report<A>
         requires room { HasRoomFor reading.reader page.now }
-        requires finishes { finishes A transactions.old.requester packet.now.from (content packet.now.frame) ≡ true }
+        requires last { IsLast A transactions.old.requester last.now }
         requires free { IsSome (next_number
-            (heard {A = A} transactions.old.requester packet.now.from (content packet.now.frame)).after) }
+            (heard {A = A} transactions.old.requester last.now.packet.from (content last.now.packet.frame)).after) }
         ensures comes { let before = both transactions.old (record self.old { reading = Some (reading_of reading) }) in
-            Comes (AsksOn packet.now.seat before
-            (heard transactions.old.requester packet.now.from (content packet.now.frame)) packet.now.from
+            Comes (AsksOn last.now.packet.seat before
+            (heard transactions.old.requester last.now.packet.from (content last.now.packet.frame)) last.now.packet.from
             (reading.reader.names ++ page.now.names)) before out.old.items result (both transactions.new self.new)
             out.new.items }
         ensures not_asked { is_asked result ≡ false }
@@ -150,7 +152,7 @@ impl<A: Allocator + Copy> ZoneSocket<A> {
             → result ≢ Report.Zones (ZoneReport.List which names) }
     {
         let user = request_user(reading.which, reading.reader.after(page));
-        match transactions.turn(packet, user, RETRIES, out) {
+        match transactions.turn(last, user, RETRIES, out) {
             Ok(tid) => {
                 reading.reader.take(page);
                 reading.tid = tid;
@@ -167,20 +169,20 @@ impl<A: Allocator + Copy> ZoneSocket<A> {
     // The reading ends by its page, and this is told of it.
     fn end_reading(
         &mut self,
-        packet: &Incoming<'_>,
+        last: &LastPacket<'_>,
         transactions: &mut TransactionSocket<A>,
         told: Report<A>,
     ) -> Report<A>
-        requires finishes { finishes A transactions.old.requester packet.now.from (content packet.now.frame) ≡ true }
+        requires last { IsLast A transactions.old.requester last.now }
         requires some { wants_memory told ≡ false }
         ensures step { (was : Option Reading) (items : List Posted) →
             let before = both transactions.old (record self.old { reading = was }) in
-            IsStep (reading_ends packet.now.seat before
-            (heard transactions.old.requester packet.now.from (content packet.now.frame)) told) before items
+            IsStep (reading_ends last.now.packet.seat before
+            (heard transactions.old.requester last.now.packet.from (content last.now.packet.frame)) told) before items
             result (both transactions.new self.new) items }
         ensures told { result ≡ told }
     {
-        transactions.close(packet);
+        transactions.close(last);
         self.reading = None;
         told
     }

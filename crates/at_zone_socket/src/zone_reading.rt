@@ -5,6 +5,7 @@ ghost use Rattle.std.specs.Prelude.{IfSome, IsNone, IsSome, true, false};
 ghost use Rattle.at_atp_frame.specs.Frames.{content};
 ghost use Rattle.at_atp_requester.specs.Requests.{heard, next_number};
 ghost use Rattle.at_event.specs.Outcomes.{IsStep};
+ghost use Rattle.at_transaction_socket.specs.LastPackets.{IsLast};
 ghost use Rattle.at_zone_socket.specs.AtpParts.{both};
 ghost use Rattle.at_zone_socket.specs.Readings.{reading_of};
 ghost use Rattle.at_zone_socket.specs.ZoneReading.{is_page, is_reading, reading_fails, zones_called};
@@ -13,7 +14,7 @@ ghost use Rattle.at_zip.specs.Request.{request_user};
 use crate::zone_socket::{ZONE_SOCKET, ZoneSocket};
 use at_ddp::{Address, Outbox};
 use at_event::{NodeFault, Report, Seat, TransactionReport, ZoneReport};
-use at_transaction_socket::{Incoming, Question, TransactionSocket, refused, tid_of};
+use at_transaction_socket::{Incoming, LastPacket, Question, TransactionSocket, refused, tid_of};
 use at_zip::{PageView, TableChoice, ZoneReader, request_user};
 use std::alloc::Allocator;
 
@@ -66,30 +67,33 @@ impl<A: Allocator + Copy> ZoneSocket<A> {
         ensures free { result ≡ true → IsSome (next_number
             (heard {A = A} transactions.now.requester packet.now.from (content packet.now.frame)).after) }
     {
-        self.is_reading(tid_of(&packet.frame)) && transactions.finishes(packet)
+        self.is_reading(tid_of(&packet.frame)) && transactions.ending(packet).is_some()
     }
 
     // Takes the open reading out, if a packet is the page that it asked for.
-    pub(crate) fn take_reading(
+    pub(crate) fn take_reading<'a>(
         &mut self,
-        packet: &Incoming<'_>,
+        packet: &Incoming<'a>,
         transactions: &TransactionSocket<A>,
-    ) -> Option<ZoneReading<A>>
+    ) -> Option<(ZoneReading<A>, LastPacket<'a>)>
         ensures received { IfSome result
-            (λ reading. self.old ≡ record self.new { reading = Some (reading_of reading) }) }
-        ensures page { IsSome result
-            → is_page A (both transactions.now self.old) packet.now.from (content packet.now.frame) ≡ true }
-        ensures free { IsSome result → IsSome (next_number
-            (heard {A = A} transactions.now.requester packet.now.from (content packet.now.frame)).after) }
+            (λ r. self.old ≡ record self.new { reading = Some (reading_of r.0) }) }
+        ensures last { IfSome result (λ r. IsLast A transactions.now.requester r.1) }
+        ensures same { IfSome result (λ r. r.1.packet ≡ packet.now) }
+        ensures page { IfSome result (λ r.
+            is_page A (both transactions.now self.old) r.1.packet.from (content r.1.packet.frame) ≡ true) }
+        ensures free { IfSome result (λ r. IsSome (next_number
+            (heard {A = A} transactions.now.requester r.1.packet.from (content r.1.packet.frame)).after)) }
         ensures other { IsNone result
             → is_page A (both transactions.now self.old) packet.now.from (content packet.now.frame) ≡ false }
         ensures unchanged { IsNone result → self.new ≡ self.old }
     {
-        if self.is_page(packet, transactions) {
-            self.reading.take()
-        } else {
-            None
+        if !self.is_reading(tid_of(&packet.frame)) {
+            return None;
         }
+        let last = transactions.ending(packet)?;
+        let reading = self.reading.take()?;
+        Some((reading, last))
     }
 
     // Whether the next page is asked for after this one.

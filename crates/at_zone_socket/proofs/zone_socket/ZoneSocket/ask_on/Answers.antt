@@ -17,7 +17,7 @@ pub returns-in-Ok-clause-comes : goal.returns-in-Ok-clause-comes
 returns-in-Ok-clause-comes g c =
     let A = g.row.A.Denot in
     let t : TransactionState = c.args.transactions.now in
-    let p = c.args.packet.now in
+    let p = c.args.last.now.packet in
     let f = content p.frame in
     let tid = c.in-Ok.tid in
     let names = c.args.reading.reader.names ++ c.args.page.now.names in
@@ -53,7 +53,7 @@ pub returns-in-Err-clause-comes : goal.returns-in-Err-clause-comes
 returns-in-Err-clause-comes g c =
     let A = g.row.A.Denot in
     let t : TransactionState = c.args.transactions.now in
-    let p = c.args.packet.now in (
+    let p = c.args.last.now.packet in (
       (λ i. both (c.in-Err.ensures.unchanged i) (record {
         tables = (c.self.view_is i).tables;
         reading = Some (reading_of c.args.reading);

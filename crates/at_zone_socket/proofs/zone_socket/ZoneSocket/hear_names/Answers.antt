@@ -28,8 +28,8 @@ returns-in-Ok-clause-comes g c =
     let was : AtpState = with_names t now c.args.reading c.args.reading.reader.names in
     let same : ◌≡◌ {A = AtpState} (with_names t now c.args.reading c.room.new.self.names) was =
     ap (with_names t now c.args.reading) c.room.ensures.same in
-    ends_with_all c.args.packet.now.seat c.args.packet.now.from
-    (content c.args.packet.now.frame) c.args.page.now c.args.out.now.items c.args.out.now.items c.finish.result
+    ends_with_all c.args.last.now.packet.seat c.args.last.now.packet.from
+    (content c.args.last.now.packet.frame) c.args.page.now c.args.out.now.items c.args.out.now.items c.finish.result
     (both c.finish.new.transactions c.finish.new.self) _ was same c.in-Ok.ensures.ok.few
     (sym c.is_last.ensures ∙ c.if-is_last.true) (c.finish.ensures.step c.args.out.now.items)
 
@@ -46,15 +46,15 @@ returns-in-NoMemory-clause-comes g c =
     (λ i. with_names t (c.self.view_is i) c.args.reading (c.room.ensures.same i)) in (
       same,
       refl,
-      page_wanted c.args.packet.now.seat (both t (record now { reading = Some (reading_of c.args.reading) }))
-          (heard {A = g.row.A.Denot} t.requester c.args.packet.now.from (content c.args.packet.now.frame))
-          c.args.packet.now.from c.args.reading.reader.names c.args.page.now c.requires.free,
+      page_wanted c.args.last.now.packet.seat (both t (record now { reading = Some (reading_of c.args.reading) }))
+          (heard {A = g.row.A.Denot} t.requester c.args.last.now.packet.from (content c.args.last.now.packet.frame))
+          c.args.last.now.packet.from c.args.reading.reader.names c.args.page.now c.requires.free,
     )
 
 pub returns-in_default : goal.returns-in_default
 returns-in_default g c =
     let A = g.row.A.Denot in
-    let f = content c.args.packet.now.frame in
+    let f = content c.args.last.now.packet.frame in
     let t : TransactionState = c.args.transactions.now in
     let now : AtpState = with_names t c.args.self.now c.args.reading c.args.reading.reader.names in
     let new : AtpState = both c.end_reading.new.transactions c.end_reading.new.self in
@@ -64,12 +64,12 @@ returns-in_default g c =
           let told = when_some (zip.number_of c.in-Err.fault) 34
           (λ n. c.zone_fault.result ≡ report.Zones (zip_report.Fault n))
           (ap zip.number_of too) c.zone_fault.ensures.fault in record {
-            comes = is_too_long c.args.packet.now.seat c.args.packet.now.from f c.args.page.now items
+            comes = is_too_long c.args.last.now.packet.seat c.args.last.now.packet.from f c.args.page.now items
                 items c.end_reading.result new now now refl
                 ((c.in-Err.ensures.too_many).0 (ap Err too))
                 (subst (λ (t : Report A). IsStep
-                (reading_ends c.args.packet.now.seat now
-                (heard {A = A} c.args.transactions.now.requester c.args.packet.now.from f) t) now items
+                (reading_ends c.args.last.now.packet.seat now
+                (heard {A = A} c.args.transactions.now.requester c.args.last.now.packet.from f) t) now items
                 c.end_reading.result new items) told
                 (c.end_reading.ensures.step now.zones.reading items));
             not_asked = ap is_asked c.end_reading.ensures.told ∙ c.zone_fault.ensures.not_asked;
