@@ -21,7 +21,7 @@ use Rattle.at_adsp.specs.Pairs.{AreConnected, Asked, GivesPairs, IsPaired, numbe
 use Rattle.at_adsp.proofs.CallLemmas.{closes_sound, connects_sound, reads_sound, resets_sound, ticks_sound}
 use Rattle.at_adsp.proofs.CallLemmas.{writes_sound}
 use Rattle.at_adsp.proofs.Growth.{found_born}
-use Rattle.at_adsp.proofs.Receptions.{hears_sound}
+use Rattle.at_adsp.proofs.HeardSegments.{hears_sound}
 use Rattle.at_adsp.proofs.Sound.{Fresh, HasPeer, Lawful, Mutual, Sound, Stands, reached, Tells}
 use Rattle.at_adsp.proofs.Steps.{foreign_sound, later, listens_sound}
 

@@ -17,6 +17,7 @@ mod EndMoves
 mod Steps
 mod CallLemmas
 mod Receptions
+mod HeardSegments
 mod Histories
 mod StreamHistories
 mod StreamSegments

@@ -1,38 +1,34 @@
--- What a segment that comes leaves true of a network of ends of streams.
+-- What a request, an acknowledgement or an answer that comes leaves true of a network of ends of streams.
 use Rattle.std.proofs.Common.{◌≡◌, ℕ, ◌+◌, Bool, true, false, cond, [], ◌∷◌, Option, Some, None, ◌⊎◌, inl, inr, refl}
 use Rattle.std.proofs.Common.{sym, ap, subst, ◌∙◌}
-use Rattle.std.specs.Prelude.{find, is_none, not, ◌==◌, ◌&&◌, ◌||◌}
+use Rattle.std.specs.Prelude.{find, is_none, not, ◌&&◌, ◌||◌}
 use Rattle.std.specs.List.{AllByRecursion}
 use Rattle.std.proofs.lemmas.Bool.{true≢false, and_parts, eqb-true}
 use Rattle.at_ddp.specs.Address.{same_address}
 use Rattle.at_ddp.specs.declared.address.Address.{Address}
 use Rattle.at_ddp.proofs.Octets.{same_address-true, same_both}
-use Rattle.at_adsp_frame.specs.Segments.{Content, Part, Open}
-use Rattle.at_adsp_frame.specs.declared.segment.OpenKind.{OpenKind}
-use Rattle.at_adsp_frame.specs.declared.segment.OpenKind.TheVariants.{Request, Acknowledgement}
-use Rattle.at_adsp_frame.specs.declared.segment.OpenKind.TheVariants.{RequestAndAcknowledgement, Denial}
+use Rattle.at_adsp_frame.specs.Segments.{Content}
 use Rattle.at_adsp_end.specs.Ends.{EndState, answering, confirming, half_end, has_opened, has_remote, is_half, is_open}
 use Rattle.at_adsp_end.specs.Ends.{is_opening, is_remote}
-use Rattle.at_adsp_end.specs.Hearing.{heard, told}
 use Rattle.at_adsp_end.specs.Positions.{Numbers}
 use Rattle.at_adsp_end.specs.Sending.{acks}
 use Rattle.at_adsp_end.specs.declared.phase.Phase.TheVariants as phase
 use Rattle.at_adsp_end.specs.declared.remote.Remote.{Remote}
 use Rattle.at_adsp_end.specs.declared.change.EndChange.TheVariants as step
-use Rattle.at_adsp_ends.specs.Openings.{ack_came, answer_came, answers_again, confirms_again, connected_to, denial_came}
+use Rattle.at_adsp_ends.specs.Openings.{ack_came, answer_came, answers_again, confirms_again, connected_to}
 use Rattle.at_adsp_ends.specs.Openings.{heard_opening, ignored, is_answered, opened, request_came, room_for}
-use Rattle.at_adsp_ends.specs.Receiving.{any_request_came, opening_came, part_came, segment_came, settled}
-use Rattle.at_adsp_ends.specs.Tables.{EndTable, by_id, by_remote, freed, has_id, next_id, stayed}
-use Rattle.at_adsp.specs.Network.{Setting, Network, MakesInTime, NoneNames, does, hears}
+use Rattle.at_adsp_ends.specs.Receiving.{any_request_came}
+use Rattle.at_adsp_ends.specs.Tables.{EndTable, by_id, by_remote, has_id, next_id, stayed}
+use Rattle.at_adsp.specs.Network.{Setting, Network, NoneNames, does}
 use Rattle.at_adsp.proofs.Beginnings.{made_sound}
 use Rattle.at_adsp.proofs.Changes.{Moves}
 use Rattle.at_adsp.proofs.Distinct.{drawn}
-use Rattle.at_adsp.proofs.EndMoves.{Same, answering_said, half_is, heard_plain, heard_quiet, hearing_plain}
+use Rattle.at_adsp.proofs.EndMoves.{Same, answering_said, half_is, hearing_plain}
 use Rattle.at_adsp.proofs.EndMoves.{hearing_same, open_is, opening_is, plain_says, reaches_said, same_known}
 use Rattle.at_adsp.proofs.Openings.{opened_sound}
 use Rattle.at_adsp.proofs.Sayings.{Says}
-use Rattle.at_adsp.proofs.Sound.{IsKnown, Knows, Reaches, Sound, Tells, TellsKind, Told}
-use Rattle.at_adsp.proofs.Steps.{found_id, found_passes, found_stands, freed_sound, ignored_sound, later, quiet_sound}
+use Rattle.at_adsp.proofs.Sound.{IsKnown, Knows, Reaches, Sound, Told}
+use Rattle.at_adsp.proofs.Steps.{found_id, found_passes, found_stands, ignored_sound, later}
 use Rattle.at_adsp.proofs.Steps.{stands_known, stayed_sound, turned_sound}
 
 -- an end whose remote is known has this remote
@@ -100,7 +96,7 @@ module _ (setting : Setting) (n : Network) (at from : Address) (s : Content) (so
           )
       go false h = ignored_sound setting n at now
 
-  any_sound : (b : Bool) → ((id : ℕ) → (any_request_came N t r b).answer ≡ step.Made id → NoneNames n at id)
+  pub any_sound : (b : Bool) → ((id : ℕ) → (any_request_came N t r b).answer ≡ step.Made id → NoneNames n at id)
       → Sound setting (n.event + 1) (does setting n at (any_request_came N t r b))
   any_sound true makes = ignored_sound setting n at now
   any_sound false makes = request_sound (by_remote t r) refl makes
@@ -167,7 +163,7 @@ module _ (setting : Setting) (n : Network) (at from : Address) (s : Content) (so
                 (sym (half_known dest e is h).0) told.1),
           )
 
-  ack_sound : setting.ours at ≡ true → (dest : ℕ) (o : Option EndState) → by_id t dest ≡ o
+  pub ack_sound : setting.ours at ≡ true → (dest : ℕ) (o : Option EndState) → by_id t dest ≡ o
       → By (Told setting n.made from at false s.source dest)
       → Sound setting (n.event + 1) (does setting n at (ack_came N t r s o))
   ack_sound here dest None is by = ignored_sound setting n at now
@@ -262,7 +258,7 @@ module _ (setting : Setting) (n : Network) (at from : Address) (s : Content) (so
       stayed_sound setting n at (has_id dest) e step.Again (confirming N e ∷ []) now is
       (reaches_said e false (not_true e.listener opens.1) reaches, tt)
 
-  answer_sound : setting.ours at ≡ true → (dest : ℕ) (there o : Option EndState) → by_id t dest ≡ o
+  pub answer_sound : setting.ours at ≡ true → (dest : ℕ) (there o : Option EndState) → by_id t dest ≡ o
       → By (Told setting n.made from at true s.source dest)
       → Sound setting (n.event + 1) (does setting n at (answer_came N t r s there o))
   answer_sound here dest there None is by = ignored_sound setting n at now
@@ -275,52 +271,3 @@ module _ (setting : Setting) (n : Network) (at from : Address) (s : Content) (so
       go true h c g = answered_sound here dest e there is h by
       go false h true g = confirmed_sound dest e is g
       go false h false g = ignored_sound setting n at now
-
-  denial_sound : (dest : ℕ) (o : Option EndState) → by_id t dest ≡ o
-      → Sound setting (n.event + 1) (does setting n at (denial_came t from o))
-  denial_sound dest None is = ignored_sound setting n at now
-  denial_sound dest (Some e) is = go (is_opening e.phase && same_address e.asked from)
-    where
-      go : (b : Bool) → Sound setting (n.event + 1)
-          (does setting n at (cond b (freed t (step.Denied e.id) e) (ignored t)))
-      go true = freed_sound setting n at (step.Denied e.id) e now
-      go false = ignored_sound setting n at now
-
-  -- ---- other segments
-
-  segment_sound : (o : Option EndState) → by_remote t r ≡ o
-      → Sound setting (n.event + 1) (does setting n at (segment_came N t s o))
-  segment_sound None is = ignored_sound setting n at now
-  segment_sound (Some e) is = go (is_open e.phase) refl
-    where
-      go : (b : Bool) → is_open e.phase ≡ b
-          → Sound setting (n.event + 1) (does setting n at (cond b (settled t (heard N e (told N e s))) (ignored t)))
-      go true opened =
-          quiet_sound setting n at (has_remote r) e (heard N e (told N e s)).after (heard N e (told N e s)).step
-          (heard N e (told N e s)).sent now is
-          (heard_quiet N e (told N e s) (open_is e.phase opened))
-          (plain_says (heard N e (told N e s)).after (heard N e (told N e s)).sent (heard_plain N e (told N e s)))
-      go false opened = ignored_sound setting n at now
-
-  -- ---- every segment
-
-  opening_sound : setting.ours at ≡ true → (kind : OpenKind) (dest : ℕ)
-      → ((id : ℕ) → (opening_came N t r s kind dest).answer ≡ step.Made id → NoneNames n at id)
-      → By (TellsKind setting n.made from at s.source kind dest) →
-      Sound setting (n.event + 1) (does setting n at (opening_came N t r s kind dest))
-  opening_sound here Request dest makes by = any_sound (s.source == 0) makes
-  opening_sound here Acknowledgement dest makes by = ack_sound here dest (by_id t dest) refl by
-  opening_sound here RequestAndAcknowledgement dest makes by =
-      answer_sound here dest (by_remote t r) (by_id t dest) refl by
-  opening_sound here Denial dest makes by = denial_sound dest (by_id t dest) refl
-
-  part_sound : setting.ours at ≡ true → (part : Part)
-      → ((id : ℕ) → (part_came N t r s part).answer ≡ step.Made id → NoneNames n at id)
-      → By (Tells setting n.made from at s.source part) →
-      Sound setting (n.event + 1) (does setting n at (part_came N t r s part))
-  part_sound here (Open kind dest) makes by = opening_sound here kind dest makes by
-  part_sound here other makes by = segment_sound (by_remote t r) refl
-
-  pub hears_sound : setting.ours at ≡ true → MakesInTime setting n at from s
-      → By (Tells setting n.made from at s.source s.body) → Sound setting (n.event + 1) (hears setting n at from s)
-  hears_sound here makes by = part_sound here s.body makes by

@@ -1,6 +1,6 @@
 -- The place of the first entry that passes a test.
 use Rattle.std.proofs.Common.{◌≡◌, ℕ, suc, ◌+◌, ◌<◌, Bool, true, false, cond, List, [], ◌∷◌, ◌++◌, length, get_or, set}
-use Rattle.std.proofs.Common.{Option, Some, None, IsSome, refl, sym, ap, subst, ◌∙◌, arith}
+use Rattle.std.proofs.Common.{Option, Some, None, refl, sym, ap, subst, ◌∙◌, arith}
 use Rattle.std.specs.Prelude.{find, remove}
 use Rattle.std.specs.List.{position_from}
 use Rattle.std.proofs.lemmas.Bool.{true≢false}
@@ -82,11 +82,6 @@ without_none p (x ∷ xs) h = go (λ g. without_none p xs g) (p x) refl h
 pub none_by : {X : Type 0} (p : X → Bool) (xs given : List X) (r : Option ℕ) → given ≡ xs → r ≡ position_from p 0 given
     → r ≡ None → find p xs ≡ None
 none_by p xs given r same is none = not_found p 0 xs (ap (position_from p 0) (sym same) ∙ sym is ∙ none)
-
-pub some_by : {X : Type 0} (p : X → Bool) (xs given : List X) (r : Option ℕ) → given ≡ xs → r ≡ position_from p 0 given
-    → (find p xs ≡ None → ⊥) → IsSome r
-some_by p xs given (Some i) same is some = refl
-some_by p xs given None same is some = absurd (some (none_by p xs given None same is refl))
 
 -- the only entry that passes is taken away again
 pub without_last : {X : Type 0} (p : X → Bool) (xs : List X) (x : X) → find p xs ≡ None → p x ≡ true
