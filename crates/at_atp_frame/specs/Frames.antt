@@ -33,6 +33,7 @@ owner from to (Request mask xo timer tid user bytes) = from
 owner from to (Response place eom sts tid user bytes) = to
 owner from to (Release tid) = from
 
+-- the number of the transaction that a packet is of
 abbrev pub number_of : Content → ℕ
 number_of (Request mask xo timer tid user bytes) = tid
 number_of (Response place eom sts tid user bytes) = tid

@@ -13,7 +13,8 @@ use crate::numbers::next_of;
 use crate::part::Part;
 use crate::progress::{RequestProgress, Retry};
 use crate::standing::{Standing, index_numbered, index_of, settle};
-use crate::transaction::{Arriving, Question, Transaction};
+use crate::transaction::{Question, Transaction};
+use crate::turning::answer_in;
 use at_atp_frame::{AtpFault, Frame, MAX_DATA, send};
 use at_ddp::{Address, Outbox};
 use at_table::Table;
@@ -156,26 +157,11 @@ impl<A: Allocator + Copy> Requester<A> {
         // A packet that has no effect needs no memory.
         ensures ignored { is_ignored (heard {A = A} self.old from (content frame.now)).step ≡ true → IsOk result }
     {
-        let Frame::Response {
-            sequence_number,
-            eom,
-            sts,
-            tid,
-            user,
-            data_,
-        } = *frame
-        else {
+        let Some((tid, arriving)) = answer_in(frame) else {
             return Ok(RequestProgress::Ignored);
         };
         let Some(index) = index_of(&self.standing, tid, from) else {
             return Ok(RequestProgress::Ignored);
-        };
-        let arriving = Arriving {
-            sequence_number,
-            eom,
-            sts,
-            user,
-            bytes: data_,
         };
         let transaction = self.standing.at_mut(index);
         let step = transaction.hear(self.alloc, &arriving, out)?;

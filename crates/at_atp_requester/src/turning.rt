@@ -115,7 +115,7 @@ impl<A: Allocator + Copy> Requester<A> {
 }
 
 // The number and the contents of a packet of an answer.
-fn answer_in<'a>(frame: &Frame<'a>) -> Option<(u16, Arriving<'a>)>
+pub(crate) fn answer_in<'a>(frame: &Frame<'a>) -> Option<(u16, Arriving<'a>)>
     ensures answer { IfSome result (λ r. content frame.now ≡ Response r.1.sequence_number r.1.eom r.1.sts r.0 r.1.user
         r.1.bytes.now) }
     ensures other { is_some result ≡ is_response (content frame.now) }

@@ -16,7 +16,6 @@ use crate::node::Node;
 use at_atp_frame::owner;
 use at_event::{Call, Timer};
 use at_packet::{AdspPacket, AtpPacket, Body, NbpPacket, Packet};
-use at_transaction_socket::tid_of;
 use std::alloc::{Allocator, Global};
 
 /// A number that a node draws. It is not to be drawn again while a packet or a record has it, or an end that is
@@ -201,7 +200,7 @@ fn tid_in(packet: &AtpPacket<'_>) -> Option<(u8, Draw)>
         return None;
     };
     let owner = owner(datagram.from, datagram.to, &frame);
-    Some((owner.node, Draw::Tid(tid_of(&frame))))
+    Some((owner.node, Draw::Tid(frame.tid())))
 }
 
 // The identifier of a lookup in a datagram of NBP.

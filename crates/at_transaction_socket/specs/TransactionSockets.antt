@@ -34,11 +34,6 @@ packet_in (Request mask xo timer tid user bytes) = record { user = user; data_ =
 packet_in (Response place eom sts tid user bytes) = record { user = user; data_ = bytes }
 packet_in (Release tid) = record { user = []; data_ = [] }
 
-abbrev pub tid_of : Content → ℕ
-tid_of (Request mask xo timer tid user bytes) = tid
-tid_of (Response place eom sts tid user bytes) = tid
-tid_of (Release tid) = tid
-
 -- ---- the requester, for any user of it
 
 -- a transaction begins, and its request is sent

@@ -13,7 +13,7 @@ mod users;
 
 pub use incoming::Incoming;
 pub use refusals::refused;
-pub use requester_socket::{Question, tid_of};
+pub use requester_socket::Question;
 pub use responders::{answer, hear, release};
 pub use service_socket::SERVICE_SOCKET;
 pub use transaction_socket::{REQUESTER_SOCKET, TransactionSocket};

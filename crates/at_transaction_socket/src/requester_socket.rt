@@ -2,9 +2,8 @@
 ghost use Rattle.std.specs.Prelude.{◌≡◌, ◌≤◌, ◌++◌, map};
 ghost use Rattle.std.specs.Prelude.{IfOk, IsOk, OnErr, true, false};
 ghost use Rattle.at_ddp.specs.Protocols.{atp_kind};
-ghost use Rattle.at_atp_frame.specs.Frames.{content, spelled_all};
+ghost use Rattle.at_atp_frame.specs.Frames.{content, number_of, spelled_all};
 ghost use Rattle.at_atp_requester.specs.Requests.{is_ignored, heard};
-ghost use Rattle.at_transaction_socket.specs.TransactionSockets.{tid_of};
 ghost use Rattle.at_transaction_socket.specs.RequesterSocket.{ask_called, hears_other, reported_other};
 ghost use Rattle.at_event.specs.Outcomes.{IsStep, posted, sent_by};
 ghost use Rattle.at_event.specs.Services.{is_asked};
@@ -12,7 +11,7 @@ ghost use Rattle.at_event.specs.Services.{is_asked};
 use crate::incoming::Incoming;
 use crate::refusals::refused;
 use crate::transaction_socket::{REQUESTER_SOCKET, TransactionSocket};
-use at_atp::{Frame, RequestProgress, Requester};
+use at_atp::{RequestProgress, Requester};
 use at_ddp::{ATP, Address, Outbox};
 use at_event::{Report, Seat, TransactionReport};
 use std::alloc::{AllocError, Allocator};
@@ -50,7 +49,7 @@ impl<A: Allocator + Copy> TransactionSocket<A> {
 
     /// Takes a packet that ends no transaction of another user.
     pub fn hear_other(&mut self, packet: &Incoming<'_>, out: &mut Outbox<A>) -> Report<A>
-        ensures step { IsStep (hears_other packet.now.seat self.old (tid_of (content packet.now.frame))
+        ensures step { IsStep (hears_other packet.now.seat self.old (number_of (content packet.now.frame))
             (heard self.old.requester packet.now.from (content packet.now.frame)))
             self.old out.old.items result self.new out.new.items }
         ensures not_asked { is_asked result ≡ false }
@@ -59,7 +58,7 @@ impl<A: Allocator + Copy> TransactionSocket<A> {
         let Ok(step) = hear(&mut self.requester, own, packet, out) else {
             return Report::NoMemory;
         };
-        reported_other(tid_of(&packet.frame), step)
+        reported_other(packet.frame.tid(), step)
     }
 }
 
@@ -100,16 +99,5 @@ fn reported_other<A: Allocator>(tid: u16, step: RequestProgress<A>) -> Report<A>
             tid,
             packets,
         }),
-    }
-}
-
-/// The number of the transaction that a packet is of.
-pub fn tid_of(frame: &Frame<'_>) -> u16
-    ensures { result ≡ tid_of (content frame.now) }
-{
-    match frame {
-        Frame::Request { tid, .. } => *tid,
-        Frame::Response { tid, .. } => *tid,
-        Frame::Release { tid } => *tid,
     }
 }

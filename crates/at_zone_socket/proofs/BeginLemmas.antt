@@ -3,7 +3,7 @@ use Rattle.std.proofs.Common.{◌≡◌, ◌⊎◌, ℕ, Bool, true, false, Opti
 use Rattle.std.specs.Prelude.{◌++◌, ◌+◌, length, nat_lt}
 use Rattle.at_ddp.specs.Datagram.{Content as Datagram}
 use Rattle.at_ddp.specs.declared.address.Address.{Address}
-use Rattle.at_atp_frame.specs.Frames.{Content}
+use Rattle.at_atp_frame.specs.Frames.{Content, number_of}
 use Rattle.at_atp_requester.specs.Requests.{heard}
 use Rattle.at_atp_requester.specs.declared.progress.RequestProgress.{RequestProgress}
 use Rattle.at_atp_requester.specs.declared.progress.RequestProgress.TheVariants as step
@@ -15,7 +15,7 @@ use Rattle.at_event.specs.declared.Report.TheVariants as report
 use Rattle.at_event.specs.declared.transactions.TransactionReport.TheVariants as atp_report
 use Rattle.at_event.specs.declared.seat.Seat.{Seat}
 use Rattle.at_event.specs.declared.service.Reply.{Reply}
-use Rattle.at_transaction_socket.specs.TransactionSockets.{packet_in, tid_of}
+use Rattle.at_transaction_socket.specs.TransactionSockets.{packet_in}
 use Rattle.at_transaction_socket.specs.RequesterSocket.{reported_other}
 use Rattle.at_zone_socket.specs.AtpHearing.{AtRequester, HearsAtp}
 use Rattle.at_zone_socket.specs.AtpParts.{AtpState}
@@ -84,7 +84,7 @@ module _ (A : Type 0) (s : Seat) (a : AtpState) (from : Address) (f : Content) (
   as_reported : (x : Outcome A AtpState) → o ≡ x → told_of_other x.report ≡ None → Own
   as_reported x is own = ap (λ (y : Outcome A AtpState). told_of_other y.report) is ∙ own
 
-  other_own : (x : RequestProgress A) → told_of_other (reported_other {A = A} (tid_of f) x) ≡ None
+  other_own : (x : RequestProgress A) → told_of_other (reported_other {A = A} (number_of f) x) ≡ None
   other_own step.Ignored = refl
   other_own step.Kept = refl
   other_own step.AskAgain = refl

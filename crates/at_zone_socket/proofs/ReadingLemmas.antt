@@ -6,7 +6,7 @@ use Rattle.std.proofs.lemmas.Bool.{false≢true, and_parts, le-ltb, lt-ltb, not-
 use Rattle.at_ddp.specs.Outbox.{Posted}
 use Rattle.at_ddp.specs.declared.address.Address.{Address}
 use Rattle.at_ddp.specs.Protocols.{atp_kind}
-use Rattle.at_atp_frame.specs.Frames.{Content, spelled}
+use Rattle.at_atp_frame.specs.Frames.{Content, number_of, spelled}
 use Rattle.at_atp_requester.specs.Requests.{Heard, begun, heard, next_number, request_by}
 use Rattle.at_zip.specs.Page as pages
 use Rattle.at_atp_requester.specs.declared.progress.RequestProgress.{RequestProgress}
@@ -16,7 +16,7 @@ use Rattle.at_event.specs.declared.Report.TheVariants as report
 use Rattle.at_event.specs.declared.transactions.TransactionReport.TheVariants as atp_report
 use Rattle.at_event.specs.declared.zones.ZoneReport.TheVariants as zip_report
 use Rattle.at_event.specs.declared.seat.Seat.{Seat}
-use Rattle.at_transaction_socket.specs.TransactionSockets.{asking, asks, packet_in, tid_of}
+use Rattle.at_transaction_socket.specs.TransactionSockets.{asking, asks, packet_in}
 use Rattle.at_zone_socket.specs.AtpHearing.{AtRequester}
 use Rattle.at_zone_socket.specs.AtpParts.{AtpState, with_reading}
 use Rattle.at_zone_socket.specs.ZoneSockets.{Reading}
@@ -186,7 +186,7 @@ module _ (A : Type 0) (s : Seat) (a : AtpState) (from : Address) (f : Content) w
   only_a_page_begins other o at = ap (λ (x : Outcome A AtpState). begun_in x.report) (rw other at at)
       ∙ go (heard {A = A} a.transactions.requester from f).step
     where
-      go : (x : RequestProgress A) → begun_in (reported_other {A = A} (tid_of f) x) ≡ None
+      go : (x : RequestProgress A) → begun_in (reported_other {A = A} (number_of f) x) ≡ None
       go step.Ignored = refl
       go step.Kept = refl
       go step.AskAgain = refl

@@ -4,7 +4,7 @@ use Rattle.std.proofs.Math.Bool.{and-false}
 use Rattle.at_ddp.specs.Outbox.{Posted}
 use Rattle.at_ddp.specs.declared.address.Address.{Address}
 use Rattle.at_atp_frame.specs.Frames as Frames
-use Rattle.at_atp_frame.specs.Frames.{Content}
+use Rattle.at_atp_frame.specs.Frames.{Content, number_of}
 use Rattle.at_atp_frame.specs.declared.frame.Frame.{Frame}
 use Rattle.at_atp_frame.specs.declared.frame.Frame.TheVariants as frames
 use Rattle.at_atp_requester.specs.Requests.{heard}
@@ -17,7 +17,7 @@ use Rattle.at_event.specs.declared.zones.ZoneReport.TheVariants as zip_report
 use Rattle.at_event.specs.declared.seat.Seat.{Seat}
 use Rattle.at_event.specs.Outcomes.{Outcome, Comes, IsStep, over}
 use Rattle.at_event.proofs.OutcomeLemmas.{comes_wider, step_comes, step_over}
-use Rattle.at_transaction_socket.specs.TransactionSockets.{TransactionState, packet_in, tid_of}
+use Rattle.at_transaction_socket.specs.TransactionSockets.{TransactionState, packet_in}
 use Rattle.at_transaction_socket.specs.RequesterSocket.{hears_other}
 use Rattle.at_zone_socket.specs.AtpHearing.{AtRequester}
 use Rattle.at_zone_socket.specs.AtpParts.{AtpState, with_transactions}
@@ -36,11 +36,11 @@ no_response A a from (frames.Release tid) apart = and-false (is_reading a.zones.
 
 pub comes_other : (A : Type 0) (s : Seat) (a : AtpState) (from : Address) (f : Content) → is_page A a from f ≡ false
     → (before after : List Posted) (r : Report A) (new : TransactionState)
-    → IsStep (hears_other s a.transactions (tid_of f) (heard a.transactions.requester from f)) a.transactions before r
-    new after → Comes (AtRequester s a from f) a before r (with_transactions a new) after
+    → IsStep (hears_other s a.transactions (number_of f) (heard a.transactions.requester from f)) a.transactions before
+    r new after → Comes (AtRequester s a from f) a before r (with_transactions a new) after
 comes_other A s a from f other before after r new step =
     let o : Outcome A TransactionState =
-    hears_other s a.transactions (tid_of f) (heard a.transactions.requester from f) in
+    hears_other s a.transactions (number_of f) (heard a.transactions.requester from f) in
     step_comes (AtRequester s a from f) a before (over (with_transactions a) o) r (with_transactions a new) after
     (rw other refl) (step_over (with_transactions a) a a.transactions refl before r new after o step)
 

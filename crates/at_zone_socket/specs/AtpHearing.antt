@@ -3,7 +3,7 @@ use Rattle.std.specs.Prelude.{MatchBool, ◌≡◌, ℕ, ◌==◌, if◌then◌e
 use Rattle.at_ddp.specs.Datagram.{Content as Datagram}
 use Rattle.at_ddp.specs.declared.address.Address.{Address}
 use Rattle.at_atp_frame.specs.Fault as atp
-use Rattle.at_atp_frame.specs.Frames.{Content, Spells}
+use Rattle.at_atp_frame.specs.Frames.{Content, Spells, number_of}
 use Rattle.at_atp_frame.specs.declared.fault.AtpFault.{AtpFault}
 use Rattle.at_atp_requester.specs.Requests.{heard}
 use Rattle.at_zip.specs.Tables.{Tables}
@@ -11,7 +11,7 @@ use Rattle.at_event.specs.declared.Report.TheVariants as report
 use Rattle.at_event.specs.declared.seat.Seat.{Seat}
 use Rattle.at_event.specs.declared.service.Reply.{Reply}
 use Rattle.at_event.specs.Outcomes.{Outcome, Over, idle, over}
-use Rattle.at_transaction_socket.specs.TransactionSockets.{packet_in, tid_of}
+use Rattle.at_transaction_socket.specs.TransactionSockets.{packet_in}
 use Rattle.at_transaction_socket.specs.RequesterSocket.{hears_other}
 use Rattle.at_transaction_socket.specs.ServiceSocket.{service_heard}
 use Rattle.at_zone_socket.specs.AtpParts.{AtpState, with_transactions, with_zones}
@@ -36,7 +36,7 @@ AtRequester {A} s a from f o =
     MatchBool (is_page A a from f)
     (ReadsPage s a (heard a.transactions.requester from f) from (names_read a.zones.reading) (packet_in f) o)
     (o
-    ≡ over (with_transactions a) (hears_other s a.transactions (tid_of f) (heard a.transactions.requester from f)))
+    ≡ over (with_transactions a) (hears_other s a.transactions (number_of f) (heard a.transactions.requester from f)))
 
 -- what a packet does at a socket; at a socket of nobody it is ignored
 abbrev pub AtSocket : {A : Type 0} → Reply A → Seat → AtpState → Address → Option AtpSocket → Content

@@ -5,7 +5,7 @@ use Rattle.std.specs.Prelude.{◌++◌, length}
 use Rattle.std.specs.Prelude.{Option, Some, None, ◌⊎◌}
 use Rattle.at_ddp.specs.declared.address.Address.{Address}
 use Rattle.at_atp_frame.specs.Fault as atp
-use Rattle.at_atp_frame.specs.Frames.{Content}
+use Rattle.at_atp_frame.specs.Frames.{Content, number_of as tid_of}
 use Rattle.at_atp_frame.specs.Packets.{Packet}
 use Rattle.at_atp_requester.specs.Requests.{Transaction, Requests, Heard, next_number, beginning, finishes}
 use Rattle.at_atp_frame.specs.declared.fault.AtpFault.TheVariants.{Full}
@@ -23,7 +23,7 @@ use Rattle.at_event.specs.declared.transactions.TransactionReport.TheVariants as
 use Rattle.at_event.specs.declared.zones.ZoneReport.TheVariants as zip_report
 use Rattle.at_event.specs.declared.fault.NodeFault.TheVariants.{NoRouter, StillReading}
 use Rattle.at_event.specs.declared.seat.Seat.{Seat}
-use Rattle.at_transaction_socket.specs.TransactionSockets.{asks, after_heard, tid_of}
+use Rattle.at_transaction_socket.specs.TransactionSockets.{asks, after_heard}
 use Rattle.at_zone_socket.specs.AtpParts.{AtpState, with_reading, with_zones}
 use Rattle.at_zone_socket.specs.ZoneSockets.{Reading, ZoneState, zones_at}
 use Rattle.at_event.specs.Faults.{number_of}

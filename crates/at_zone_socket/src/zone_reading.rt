@@ -14,7 +14,7 @@ ghost use Rattle.at_zip.specs.Request.{request_user};
 use crate::zone_socket::{ZONE_SOCKET, ZoneSocket};
 use at_ddp::{Address, Outbox};
 use at_event::{NodeFault, Report, Seat, TransactionReport, ZoneReport};
-use at_transaction_socket::{Incoming, LastPacket, Question, TransactionSocket, refused, tid_of};
+use at_transaction_socket::{Incoming, LastPacket, Question, TransactionSocket, refused};
 use at_zip::{PageView, TableChoice, ZoneReader, request_user};
 use std::alloc::Allocator;
 
@@ -67,7 +67,7 @@ impl<A: Allocator + Copy> ZoneSocket<A> {
         ensures free { result ≡ true → IsSome (next_number
             (heard {A = A} transactions.now.requester packet.now.from (content packet.now.frame)).after) }
     {
-        self.is_reading(tid_of(&packet.frame)) && transactions.ending(packet).is_some()
+        self.is_reading(packet.frame.tid()) && transactions.ending(packet).is_some()
     }
 
     // Takes the open reading out, if a packet is the page that it asked for.
@@ -88,7 +88,7 @@ impl<A: Allocator + Copy> ZoneSocket<A> {
             → is_page A (both transactions.now self.old) packet.now.from (content packet.now.frame) ≡ false }
         ensures unchanged { IsNone result → self.new ≡ self.old }
     {
-        if !self.is_reading(tid_of(&packet.frame)) {
+        if !self.is_reading(packet.frame.tid()) {
             return None;
         }
         let last = transactions.ending(packet)?;

@@ -7,7 +7,7 @@ use Rattle.at_ddp.specs.Datagram.{Content as Datagram}
 use Rattle.at_ddp.specs.declared.address.Address.{Address}
 use Rattle.at_ddp.specs.Protocols.{atp_kind}
 use Rattle.at_atp_frame.specs.Fault as atp
-use Rattle.at_atp_frame.specs.Frames.{Content, Request, Response, Release, spelled_all}
+use Rattle.at_atp_frame.specs.Frames.{Content, Request, Response, Release, number_of, spelled_all}
 use Rattle.at_atp_frame.specs.Packets.{Packet}
 use Rattle.at_atp_frame.specs.declared.fault.AtpFault.TheVariants.{Full}
 use Rattle.at_atp_requester.specs.Requests.{Heard, heard}
@@ -23,7 +23,6 @@ use Rattle.at_zone_socket.specs.AtpHearing.{Zones as ZoneSocket, AtRequester}
 use Rattle.at_zone_socket.specs.AtpParts.{AtpState, with_transactions, with_zones, with_reading}
 use Rattle.at_zone_socket.specs.ZoneSockets.{Reading, zones_at, ZoneState}
 use Rattle.at_transaction_socket.specs.TransactionSockets.{after_heard, asking as asker, asks, packet_in, serving}
-use Rattle.at_transaction_socket.specs.TransactionSockets.{tid_of}
 use Rattle.at_event.specs.Kinds.{Atp}
 use Rattle.at_node.specs.Nodes.{NodeState, over_atp}
 use Rattle.at_event.specs.Outcomes.{Outcome, Through, idle, refused_as, over}
@@ -91,13 +90,13 @@ module _ (A : Type 0) (s : Seat) (a : AtpState) (which : ℕ) where
     where
       go : (b : Bool) → MatchBool b
           (ReadsPage s a (heard a.transactions.requester from f) from (names_read a.zones.reading) (packet_in f) o)
-          (o ≡ over (with_transactions a) (hears_other s a.transactions (tid_of f)
+          (o ≡ over (with_transactions a) (hears_other s a.transactions (number_of f)
           (heard a.transactions.requester from f))) → IsOfTransactions A (Gets which) o
       go true t = reading_page (heard a.transactions.requester from f) from (names_read a.zones.reading) (packet_in f) o
           t
       go false t = hearing o (heard a.transactions.requester from f)
-          (reported_other (tid_of f) (heard {A = A} a.transactions.requester from f).step) a.zones.reading
-          (other_told (tid_of f) (heard {A = A} a.transactions.requester from f).step) t
+          (reported_other (number_of f) (heard {A = A} a.transactions.requester from f).step) a.zones.reading
+          (other_told (number_of f) (heard {A = A} a.transactions.requester from f).step) t
 
   -- a part has no place for a request, or this comes of it
   full : {P : Type 0} (f : P → AtpState) (part : P) (b : Bool) (o : Outcome A AtpState) (q : Outcome A P)

@@ -6,7 +6,7 @@ use Rattle.std.proofs.lemmas.Bool.Decides.{nat_tests}
 use Rattle.at_ddp.specs.declared.address.Address.{Address}
 use Rattle.at_ddp.specs.Protocols.{atp_kind}
 use Rattle.at_atp_frame.specs.Fault as atp
-use Rattle.at_atp_frame.specs.Frames.{Content, Request, Response, Release}
+use Rattle.at_atp_frame.specs.Frames.{Content, Request, Response, Release, number_of}
 use Rattle.at_atp_frame.specs.Packets.{Packet}
 use Rattle.at_atp_frame.specs.declared.fault.AtpFault.TheVariants as atps
 use Rattle.at_atp_requester.specs.Answers.{AnswerPart, is_wanted, whole, with_part}
@@ -26,7 +26,7 @@ use Rattle.at_event.specs.declared.zones.ZoneReport.TheVariants as zip_report
 use Rattle.at_event.specs.declared.fault.NodeFault.TheVariants as nodes
 use Rattle.at_zone_socket.specs.AtpParts.{AtpState, with_reading, with_transactions}
 use Rattle.at_zone_socket.specs.ZoneSockets.{Reading}
-use Rattle.at_transaction_socket.specs.TransactionSockets.{after_heard, asking as asking_at, asks, packet_in, tid_of}
+use Rattle.at_transaction_socket.specs.TransactionSockets.{after_heard, asking as asking_at, asks, packet_in}
 use Rattle.at_node.specs.Nodes.{NodeState}
 use Rattle.at_zone_socket.specs.AtpHearing.{AtRequester}
 use Rattle.at_zone_socket.specs.AtpTimers.{after_retry, retry_fired}
@@ -220,9 +220,9 @@ module _ (A : Type 0) (n : NodeState) where
 
         go : (b : Bool)
             → MatchBool b (ReadsPage n.seat n.atp h from (names_read n.atp.zones.reading) (packet_in f) o)
-            (o ≡ over (with_transactions n.atp) (hears_other n.seat n.atp.transactions (tid_of f) h)) → Safe o
+            (o ≡ over (with_transactions n.atp) (hears_other n.seat n.atp.transactions (number_of f) h)) → Safe o
         go true reads = reads_safe h from (names_read n.atp.zones.reading) (packet_in f) o one reads
         go false is =
-            heard_safe h (reported_other (tid_of f) (heard {A = A} n.atp.transactions.requester from f).step)
+            heard_safe h (reported_other (number_of f) (heard {A = A} n.atp.transactions.requester from f).step)
             n.atp.zones.reading o one
-            (other_quiet (tid_of f) (heard {A = A} n.atp.transactions.requester from f).step) is
+            (other_quiet (number_of f) (heard {A = A} n.atp.transactions.requester from f).step) is

@@ -1,10 +1,10 @@
 use Rattle.std.proofs.Common.{ap, ◌∙◌, ◌≡◌, ◌++◌, map}
 use Rattle.std.proofs.lemmas.Bool.{false≢true}
 use Rattle.at_ddp.specs.Protocols.{atp_kind}
-use Rattle.at_atp_frame.specs.Frames.{content, spelled_all}
+use Rattle.at_atp_frame.specs.Frames.{content, number_of, spelled_all}
 use Rattle.at_atp_requester.specs.Requests.{Heard, heard, is_ignored}
 use Rattle.at_event.specs.Outcomes.{posted, sent_by}
-use Rattle.at_transaction_socket.specs.TransactionSockets.{TransactionState, asking, tid_of}
+use Rattle.at_transaction_socket.specs.TransactionSockets.{TransactionState, asking}
 use Rattle.at_transaction_socket.proofs.RequesterLemmas.{other_wanted, steps_other}
 use Rattle.at_transaction_socket.proofs.transaction_socket.TransactionSocket.hear_other.Goals as goal
 
@@ -25,8 +25,8 @@ returns-clause-step g c =
     (spelled_all (heard {A = g.row.A.Denot} (c.self.view_is i).requester p.from f).sent))) in
     let same = ap (λ (t : TransactionState). record t { requester = c.hear.new.requester }) c.self.view_is
     ∙ (λ i. record now { requester = requester i }) in
-    rw (c.reported_other.ensures.report, c.tid_of.ensures)
-    (steps_other p.seat now (tid_of f) h c.in-Ok.step c.args.out.now.items c.hear.new.out.items _ step same sent)
+    rw (c.reported_other.ensures.report, c.tid.ensures)
+    (steps_other p.seat now (number_of f) h c.in-Ok.step c.args.out.now.items c.hear.new.out.items _ step same sent)
 
 pub returns-in_default-clause-step : goal.returns-in_default-clause-step
 returns-in_default-clause-step g c =
@@ -41,5 +41,5 @@ returns-in_default-clause-step g c =
     c.self.view_is in (
       same,
       c.in_default.ensures.nothing_sent,
-      other_wanted (tid_of f) h.step (λ is. absurd (false≢true (c.in_default.ensures.ignored (step ∙ is)))),
+      other_wanted (number_of f) h.step (λ is. absurd (false≢true (c.in_default.ensures.ignored (step ∙ is)))),
     )

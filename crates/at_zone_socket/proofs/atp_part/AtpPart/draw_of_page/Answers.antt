@@ -8,7 +8,7 @@ use Rattle.at_zip.specs.Page as pages
 use Rattle.at_event.specs.Outcomes.{Outcome}
 use Rattle.at_event.specs.declared.Report.TheVariants as report
 use Rattle.at_event.specs.declared.transactions.TransactionReport.TheVariants as atp_report
-use Rattle.at_transaction_socket.specs.TransactionSockets.{packet_in, tid_of}
+use Rattle.at_transaction_socket.specs.TransactionSockets.{packet_in}
 use Rattle.at_zone_socket.specs.AtpHearing.{AtRequester}
 use Rattle.at_zone_socket.specs.AtpParts.{AtpState}
 use Rattle.at_zone_socket.specs.ZoneReading.{is_page, is_reading, names_read}
@@ -26,11 +26,11 @@ returns-in-Ok-clause-found g c =
     let inside : AtpState = opened c.self.view_is in
     let same = ap (λ x. packet_in (content x)) c.in-Response.is in
     let mine : is_page A inside from f ≡ true = sym c.is_page.ensures.page ∙ c.if-not-is_page.false in
-    let parts = and_parts (is_reading inside.zones.reading (tid_of f))
+    let parts = and_parts (is_reading inside.zones.reading (number_of f))
     (finishes A inside.transactions.requester from f) mine in
     let turns = c.next_tid.ensures.turn from f parts.1
     (sym (ap (λ x. Some (number_of (content x))) c.in-Response.is)) in
-    let asks = asks_parts inside.zones.reading c.asks_on.result c.in-Ok.page.last (tid_of f)
+    let asks = asks_parts inside.zones.reading c.asks_on.result c.in-Ok.page.last (number_of f)
     (length c.in-Ok.page.names) c.asks_on.ensures c.if-asks_on.true parts.0 in
     subst (λ (a : AtpState). IfSome c.next_tid.result (λ tid. (o : Outcome A AtpState) × AtRequester s a from f o
     × (o.report ≡ report.Transactions (atp_report.Begun tid)))) c.self.view_is
@@ -46,7 +46,7 @@ returns-in-Ok-clause-only g c = λ o at tid is.
     let f : Content = content c.args.packet.now.frame in
     let inside : AtpState = opened c.self.view_is in
     let mine : is_page A inside from f ≡ true = sym c.is_page.ensures.page ∙ c.if-not-is_page.false in
-    let parts = and_parts (is_reading inside.zones.reading (tid_of f))
+    let parts = and_parts (is_reading inside.zones.reading (number_of f))
     (finishes A inside.transactions.requester from f) mine in
     let on = goes_on_by A s inside from f tid
     (o, subst (λ (a : AtpState). AtRequester s a from f o) (sym c.self.view_is) at, is) mine in
@@ -60,7 +60,7 @@ returns-in_default-read_page-clause-only g c = λ o at tid is.
     let f : Content = content c.args.packet.now.frame in
     let inside : AtpState = opened c.self.view_is in
     let mine : is_page A inside from f ≡ true = sym c.is_page.ensures.page ∙ c.if-not-is_page.false in
-    let parts = and_parts (is_reading inside.zones.reading (tid_of f))
+    let parts = and_parts (is_reading inside.zones.reading (number_of f))
     (finishes A inside.transactions.requester from f) mine in
     let on = goes_on_by A s inside from f tid
     (o, subst (λ (a : AtpState). AtRequester s a from f o) (sym c.self.view_is) at, is) mine in
@@ -68,7 +68,7 @@ returns-in_default-read_page-clause-only g c = λ o at tid is.
     let both : Ok c.in-Ok.page ≡ Ok on.page = sym c.in-Ok.is
     ∙ c.read_page.ensures.only on.page (subst (λ (x : Packet). pages.Spells x.user x.data_ on.page) same on.spelled) in
     let its : c.in-Ok.page ≡ on.page = cc in
-    let asks = asks_of_parts inside.zones.reading c.asks_on.result c.in-Ok.page.last (tid_of f)
+    let asks = asks_of_parts inside.zones.reading c.asks_on.result c.in-Ok.page.last (number_of f)
     (length c.in-Ok.page.names) c.asks_on.ensures parts.0
     (ap (λ (p : pages.Page). p.last) its ∙ on.goes_on)
     (ap (λ (p : pages.Page). nat_lt 1024 (length (names_read inside.zones.reading) + length p.names)) its ∙ on.few) in
