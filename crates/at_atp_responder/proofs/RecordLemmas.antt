@@ -13,11 +13,11 @@ use Rattle.at_ddp.specs.Tables.{replaced}
 use Rattle.at_atp_frame.specs.declared.fault.AtpFault.{AtpFault}
 use Rattle.at_atp_responder.specs.Records.{State, Waiting, Answered, Released, Record, is_key, repeated, released}
 use Rattle.at_atp_responder.specs.Records.{came_again, request_came, release_came, is_new_and_full, state_fault}
-use Rattle.at_atp_responder.specs.Records.{record_fault, fit, after_answer, IsTaken, IsRepeat}
+use Rattle.at_atp_responder.specs.Records.{record_fault, fit, IsTaken, IsRepeat}
 use Rattle.at_atp_responder.specs.declared.reception.Key.{Key}
 use Rattle.at_atp_responder.specs.declared.reception.Reception.{Reception}
 use Rattle.at_atp_responder.specs.declared.reception.Reception.TheVariants.{Ignored, New}
-use Rattle.at_ddp.proofs.TableLemmas.{Found, without_none}
+use Rattle.at_ddp.proofs.TableLemmas.{Found}
 use Rattle.at_ddp.proofs.OutboxLemmas.{sends_nothing}
 
 -- a record for a new request
@@ -120,11 +120,6 @@ keep_some rs new key i old now packets f same is set_is =
     ∙ ap (λ x. replaced (is_key key) x rs)
     (is ∙ ap (λ (k : Key). record { key = k; state = Answered packets })
     (ap (λ (x : Record). x.key) same ∙ own key f.entry f.passes))
-
--- without a record for the request, the answer changes none
-pub none_answered : (rs : List Record) (key : Key) (packets : List Packet) → find (is_key key) rs ≡ None
-    → rs ≡ after_answer rs key packets
-none_answered rs key packets none = rw none (sym (without_none (is_key key) rs none))
 
 -- ---- packets of an answer
 

@@ -28,6 +28,15 @@ pub(crate) struct Records<A: Allocator> {
     pub(crate) table: Table<Key, Record<A>, A>,
 }
 
+// A request that waits for its answer.
+#[derive(Clone, Copy)]
+pub(crate) struct WaitingRequest {
+    // The index of its record.
+    pub(crate) index: usize,
+    // Which packets it asks for.
+    pub(crate) bitmap: u8,
+}
+
 impl<A: Allocator> Model for Records<A> {
     ghost use Rattle.std.specs.Prelude.{List};
     ghost use Rattle.at_atp_responder.specs.Records.{Record as Kept};
@@ -65,23 +74,21 @@ fn is_among(keys: &[Key], node: u8, tid: u16) -> bool
         .any(|key| key.from.node == node && key.tid == tid)
 }
 
-// Why a request cannot be answered.
-pub(crate) fn record_fault<A: Allocator>(records: &Records<A>, key: Key) -> Option<AtpFault>
-    ensures { result ≡ record_fault (find (is_key key) records.now) }
+// The index of the record under this key, if it can expire. The error is why it cannot.
+pub(crate) fn expiring_index<A: Allocator>(
+    records: &Records<A>,
+    key: Key,
+) -> Result<usize, AtpFault>
+    ensures place { IfOk result (λ index. position_from (is_key key) 0 records.now ≡ Some index) }
+    ensures expires { OnOk result (expiry_fault (find (is_key key) records.now) ≡ None) }
+    ensures refuses { IfErr result (λ fault. expiry_fault (find (is_key key) records.now) ≡ Some fault) }
 {
-    match record_of(records, key) {
-        None => Some(AtpFault::NoSuch),
-        Some(record) => record.fault(),
-    }
-}
-
-// Why a record cannot expire.
-pub(crate) fn expiry_fault<A: Allocator>(records: &Records<A>, key: Key) -> Option<AtpFault>
-    ensures { result ≡ expiry_fault (find (is_key key) records.now) }
-{
-    match record_of(records, key) {
-        None => Some(AtpFault::NoSuch),
-        Some(record) => record.expiry_fault(),
+    let Some(index) = index_of(records, key) else {
+        return Err(AtpFault::NoSuch);
+    };
+    match records.table.at(index).expiry_fault() {
+        Some(fault) => Err(fault),
+        None => Ok(index),
     }
 }
 
@@ -107,19 +114,26 @@ pub(crate) fn count<A: Allocator>(records: &Records<A>) -> usize
     records.table.len()
 }
 
-// Which packets a request that waits asks for. The error is why the request cannot be answered.
-pub(crate) fn asked_bitmap<A: Allocator>(records: &Records<A>, key: Key) -> Result<u8, AtpFault>
-    ensures bitmap { IfOk result (λ bitmap. IfSome (find (is_key key) records.now)
-        (λ r. bitmap ≡ asked_bitmap r.state)) }
+// The request under this key, if it waits. The error is why it cannot be answered.
+pub(crate) fn waiting<A: Allocator>(
+    records: &Records<A>,
+    key: Key,
+) -> Result<WaitingRequest, AtpFault>
+    ensures place { IfOk result (λ w. position_from (is_key key) 0 records.now ≡ Some w.index) }
+    ensures bitmap { IfOk result (λ w. IfSome (find (is_key key) records.now) (λ r. w.bitmap ≡ asked_bitmap r.state)) }
     ensures waits { OnOk result (record_fault (find (is_key key) records.now) ≡ None) }
     ensures refuses { IfErr result (λ fault. record_fault (find (is_key key) records.now) ≡ Some fault) }
 {
-    let Some(record) = record_of(records, key) else {
+    let Some(index) = index_of(records, key) else {
         return Err(AtpFault::NoSuch);
     };
+    let record = records.table.at(index);
     match record.fault() {
         Some(fault) => Err(fault),
-        None => Ok(record.bitmap()),
+        None => Ok(WaitingRequest {
+            index,
+            bitmap: record.bitmap(),
+        }),
     }
 }
 

@@ -10,8 +10,8 @@ ghost use Rattle.at_ddp.specs.Tables.{without_first};
 
 use crate::reception::{Key, Reception};
 use crate::records::{
-    Records, count, expiring_at, expiry_fault, has_number, hear_release, hear_request,
-    record_fault, record_of,
+    Records, count, expiring_at, expiring_index, has_number, hear_release, hear_request, record_of,
+    waiting,
 };
 use crate::settling::forget;
 use at_atp_frame::{AtpFault, Frame};
@@ -129,10 +129,8 @@ impl<A: Allocator + Copy> Responder<A> {
         ensures succeeds { record_fault (find (is_key key) self.old) ≡ None → IsOk result }
         ensures unchanged { OnErr result (self.new ≡ self.old) }
     {
-        if let Some(fault) = record_fault(&self.records, key) {
-            return Err(fault);
-        }
-        let _ = forget(&mut self.records, key);
+        let request = waiting(&self.records, key)?;
+        forget(&mut self.records, key, request.index);
         Ok(())
     }
 
@@ -143,10 +141,8 @@ impl<A: Allocator + Copy> Responder<A> {
         ensures succeeds { expiry_fault (find (is_key key) self.old) ≡ None → IsOk result }
         ensures unchanged { OnErr result (self.new ≡ self.old) }
     {
-        if let Some(fault) = expiry_fault(&self.records, key) {
-            return Err(fault);
-        }
-        let _ = forget(&mut self.records, key);
+        let index = expiring_index(&self.records, key)?;
+        forget(&mut self.records, key, index);
         Ok(())
     }
 }

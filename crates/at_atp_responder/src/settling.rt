@@ -1,33 +1,32 @@
 //! What becomes of the record of a request that is answered: the answer is kept, or the record is removed.
-ghost use Rattle.std.specs.Prelude.{◌≡◌, ◌≤◌, length, true, find, Some, IfSome};
+ghost use Rattle.std.specs.Prelude.{◌≡◌, ◌≤◌, length, true, find, Some};
 ghost use Rattle.std.specs.List.{position_from};
-ghost use Rattle.at_atp_responder.specs.Records.{Answered, fit, is_key, is_kept, asked_bitmap, after_answer};
+ghost use Rattle.at_atp_responder.specs.Records.{Answered, fit, is_key, is_kept, after_answer};
 ghost use Rattle.at_ddp.specs.Tables.{replaced, without_first};
 
 use crate::reception::Key;
-use crate::records::{Records, index_of};
+use crate::records::Records;
 use at_atp_frame::Packet;
 use at_ddp::Listed;
 use std::alloc::Allocator;
 
-// Keeps the answer if the request is exactly-once, and removes the record otherwise.
+// Keeps the answer if the request is exactly-once, and removes the record at this index otherwise.
 pub(crate) fn settle<A: Allocator>(
     records: &mut Records<A>,
     key: Key,
+    index: usize,
     packets: Listed<Packet<A>, A>,
 )
+    requires place { position_from (is_key key) 0 records.old ≡ Some index }
     requires few { length packets ≤ 8 }
     requires fits { fit packets ≡ true }
     ensures settled { records.new ≡ after_answer records.old key packets }
     ensures no_more { length records.new ≤ length records.old }
 {
-    let Some(index) = index_of(records, key) else {
-        return;
-    };
     if is_kept_at(records, key, index) {
         keep(records, key, index, packets);
     } else {
-        let _ = forget_at(records, key, index);
+        forget(records, key, index);
     }
 }
 
@@ -35,20 +34,19 @@ pub(crate) fn settle<A: Allocator>(
 pub(crate) fn settle_copy<A: Allocator + Copy>(
     records: &mut Records<A>,
     key: Key,
+    index: usize,
     packets: &[Packet<A>],
 )
+    requires place { position_from (is_key key) 0 records.old ≡ Some index }
     requires few { length packets.now ≤ 8 }
     requires fits { fit packets.now ≡ true }
     ensures settled { records.new ≡ after_answer records.old key packets.now }
     ensures no_more { length records.new ≤ length records.old }
 {
-    let Some(index) = index_of(records, key) else {
-        return;
-    };
     if is_kept_at(records, key, index) {
         keep_copy(records, key, index, packets);
     } else {
-        let _ = forget_at(records, key, index);
+        forget(records, key, index);
     }
 }
 
@@ -95,25 +93,12 @@ fn keep_copy<A: Allocator + Copy>(
     record.keep_copy(packets);
 }
 
-// Removes a record. Returns which packets its request asked for.
-pub(crate) fn forget<A: Allocator>(records: &mut Records<A>, key: Key) -> u8
-    ensures gone { records.new ≡ without_first (is_key key) records.old }
-    ensures bitmap { IfSome (find (is_key key) records.old) (λ r. result ≡ asked_bitmap r.state) }
-    ensures no_more { length records.new ≤ length records.old }
-{
-    match index_of(records, key) {
-        None => 0,
-        Some(index) => forget_at(records, key, index),
-    }
-}
-
-// Removes the record at this index. Returns which packets its request asked for.
-fn forget_at<A: Allocator>(records: &mut Records<A>, key: Key, index: usize) -> u8
+// Removes the record at this index.
+pub(crate) fn forget<A: Allocator>(records: &mut Records<A>, key: Key, index: usize)
     requires { position_from (is_key key) 0 records.old ≡ Some index }
     ensures gone { records.new ≡ without_first (is_key key) records.old }
-    ensures bitmap { IfSome (find (is_key key) records.old) (λ r. result ≡ asked_bitmap r.state) }
     ensures no_more { length records.new ≤ length records.old }
 {
     let record = records.table.remove(index);
-    record.bitmap()
+    drop(record);
 }

@@ -171,9 +171,7 @@ fn reply<A: Allocator + Copy, S: Service<A>>(
     ensures nothing_sent { OnErr result (Sends out.old out.new []) }
     ensures not_asked { OnErr result (service.new ≡ service.old) }
 {
-    let Ok(()) = records.room(key, out) else {
-        return Err(AllocError);
-    };
+    Responder::room(out)?;
     match service.serve(key, user, bytes) {
         Err(AllocError) => Err(AllocError),
         Ok(Reply::Later) => Ok(()),

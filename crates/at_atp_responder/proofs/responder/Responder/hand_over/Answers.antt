@@ -8,19 +8,19 @@ use Rattle.at_atp_responder.proofs.responder.Responder.hand_over.Goals as goal
 
 pub settle-requires-clause-few : goal.settle-requires-clause-few
 settle-requires-clause-few g c =
-    subst (λ (ps : List Packet). length ps ≤ 8) c.as_slice.ensures c.in_ok-count.ensures.few
+    subst (λ (ps : List Packet). length ps ≤ 8) c.as_slice.ensures c.in_ok-sent.ensures.few
 
 pub settle-requires-clause-fits : goal.settle-requires-clause-fits
 settle-requires-clause-fits g c =
-    subst (λ (ps : List Packet). fit ps ≡ true) c.as_slice.ensures c.in_ok-count.ensures.fits
+    subst (λ (ps : List Packet). fit ps ≡ true) c.as_slice.ensures c.in_ok-sent.ensures.fits
 
 pub returns-clause-ok : goal.returns-clause-ok
 returns-clause-ok g c =
     let same = c.self.view_is in
     let sent = subst (λ (ps : List Packet). Sends c.args.out.now c.send_asked.new.out
     (spelled_all (asked_for (find (is_key c.args.key) c.self.inside.records) c.args.key ps))) c.as_slice.ensures
-    c.in_ok-count.ensures.sent in
-    let count = c.in_ok-count.ensures.counts
+    c.in_ok-sent.ensures.sent in
+    let count = c.in_ok-sent.ensures.counts
     ∙ ap (λ (ps : List Packet). length (asked_for (find (is_key c.args.key) c.self.inside.records) c.args.key ps))
     c.as_slice.ensures in record {
       is_new = c.settle.ensures.settled ∙ ap (λ rs. after_answer rs c.args.key c.args.packets) c.self.view_is;
