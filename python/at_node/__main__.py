@@ -9,8 +9,8 @@ import sys
 from typing import List, Optional
 
 from . import commands
-from .faults import Fault
-from .joining import add_words, check_words, station_of
+from .faults import Fault, Refused
+from .joining import add_words, check_words, looks_for_router, station_of
 from .live import Live, read_script
 from .station import Station
 
@@ -40,7 +40,7 @@ def _parser() -> argparse.ArgumentParser:
 def _check(parser: argparse.ArgumentParser, words: argparse.Namespace) -> None:
     """Refuses what does not go together. Ends the program with status 2."""
     check_words(parser, words)
-    if words.command == "zones" and words.router is None:
+    if words.command == "zones" and words.router is None and not looks_for_router(words):
         parser.error("zones needs --router: a zone list is asked of a router")
     if words.command == "chat" and words.address is not None:
         try:
@@ -80,9 +80,13 @@ def _names(station: Station, words: argparse.Namespace) -> bool:
 
 
 def _zones(station: Station, words: argparse.Namespace) -> bool:
-    came = commands.zones(station, words.local, sys.stdout)
+    try:
+        came = commands.zones(station, words.local, sys.stdout)
+    except Refused:
+        _tell("no router answered, so there is no zone list; --router names one")
+        return False
     if not came:
-        _tell(f"the router, node {words.router}, gave no zone list; is it there?")
+        _tell("the router gave no zone list; is it there?")
     return came
 
 
@@ -91,11 +95,11 @@ COMMANDS = {"live": _live, "names": _names, "zones": _zones, "chat": _chat}
 
 def _run(words: argparse.Namespace) -> bool:
     """Joins the cable, runs the command, and leaves. Raises Fault or OSError."""
-    with station_of(words) as (number, station):
-        if words.command not in ("live", "chat"):
+    if words.command not in ("live", "chat"):
+        with station_of(words) as (_, station):
             return COMMANDS[words.command](station, words)
+    with station_of(words, _tell) as (_, station):
         counts = station.cable.counts
-        _tell(f"node {number} of network {words.net}")
         signal.signal(signal.SIGUSR1, lambda *_: _tell(counts.line()))
         try:
             return COMMANDS[words.command](station, words)

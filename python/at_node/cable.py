@@ -6,6 +6,10 @@ from collections import Counter
 from typing import Counter as CounterOf, Optional, Protocol
 
 
+# The byte of a datagram with the long header that has its type.
+TYPE = 12
+
+
 class Counts:
     """What came and went over a cable since it was joined."""
 
@@ -13,16 +17,24 @@ class Counts:
         self.received = 0
         self.sent = 0
         self.dropped: CounterOf[str] = Counter()
+        # Those that the node heard and that changed nothing, by their type.
+        self.ignored: CounterOf[int] = Counter()
 
     def drop(self, reason: str) -> None:
         """Counts what is dropped, by the reason."""
         self.dropped[reason] += 1
 
+    def ignore(self, datagram: bytes) -> None:
+        """Counts a datagram with the long header that had no effect."""
+        self.ignored[datagram[TYPE]] += 1
+
     def line(self) -> str:
         """All counts in one line."""
         counted = f"received {self.received}, sent {self.sent}, dropped {self.dropped_in_all()}"
         reasons = ", ".join(f"{count} {reason}" for reason, count in sorted(self.dropped.items()))
-        return f"{counted}: {reasons}" if reasons else counted
+        types = ", ".join(f"{count} of type {it}" for it, count in sorted(self.ignored.items()))
+        dropped = f"{counted}: {reasons}" if reasons else counted
+        return f"{dropped}; ignored {sum(self.ignored.values())}: {types}" if types else dropped
 
     def dropped_in_all(self) -> int:
         """How many were dropped, for any reason."""

@@ -9,6 +9,10 @@ from typing import List, Match, NamedTuple, Optional
 from .words import bytes_of_word, text_of_word
 
 END = "end"
+# The reports whose second word is the number of an end of a stream.
+OF_ENDS = frozenset(
+    ["opening", "made", "opened", "denied", "heard", "dropped", "closed", "freed"]
+)
 _FIND = re.compile(r"([^:]+):([^@]+)@([^,]+),(\d+),(\d+),(\d+)")
 
 
@@ -70,6 +74,12 @@ class Report:
     def number(self, place: int = 1) -> int:
         """The word at this place, as a number. Raises ValueError if it is none."""
         return int(self.words[place])
+
+    @property
+    def end(self) -> Optional[int]:
+        """The number of the end of a stream that this is of. None if it is of none, or, as `wrote`,
+        `read`, `idle` and `again`, of the end that was called or whose timer fired."""
+        return self.number() if self.kind in OF_ENDS else None
 
     def texts(self) -> List[str]:
         """The texts of `zones` and `localzones`."""

@@ -4,12 +4,15 @@ from __future__ import annotations
 
 import selectors
 import time
+from dataclasses import dataclass
 from typing import Any, Callable, List, Mapping, Optional
 
 from .alarms import INTERVALS, Alarms
 from .cable import Cable
+from .kept import Kept
 from .node import Node
 from .report import Report
+from .words import line_of_words
 
 # So many datagrams are taken before clocks and other files are looked at.
 MAX_AT_ONCE = 64
@@ -52,6 +55,15 @@ def pass_numbers(node: Node, number: int, count: int) -> None:
         node.timer(f"retry {asked}")
 
 
+@dataclass
+class _Clock:
+    """What is done each so many seconds, and when next."""
+
+    due: float
+    seconds: float
+    do: Callable[[], None]
+
+
 class Station:
     """A node, its cable and its alarms. Nothing happens but in a call of a method."""
 
@@ -65,7 +77,8 @@ class Station:
         """Node and cable stay the caller's. `hear` is called with what the node reports of each
         datagram and timer, and may call the node by `call`."""
         self.node, self.cable, self.hear = node, cable, hear
-        self._alarms = Alarms(intervals)
+        self._alarms, self._kept = Alarms(intervals), Kept()
+        self._clocks: List[_Clock] = []
         self._selector = selectors.PollSelector()
         self._selector.register(cable, selectors.EVENT_READ)
         self._listed: Optional[List[str]] = None
@@ -78,11 +91,32 @@ class Station:
         """Ends that."""
         self._selector.unregister(file)
 
+    def every(self, seconds: float, do: Callable[[], None]) -> None:
+        """Calls `do` in this moment, and in a step each so many seconds later."""
+        self._clocks.append(_Clock(time.monotonic() + seconds, seconds, do))
+        do()
+
     def call(self, words: str) -> Report:
         """Plays a call, and sends what comes of it. Raises as `Node.call` does."""
         report = self.node.call(words)
+        self._kept.called(line_of_words(words).decode().split(), report, time.monotonic())
         self._settle()
         return report
+
+    def is_busy(self) -> bool:
+        """Whether the node has a stream, a transaction or a lookup, or is to answer a request."""
+        return self._kept.is_busy(self.node.timers(), time.monotonic())
+
+    def replace(self, node: Node) -> None:
+        """Lets another node live here, with the names of the one before, which is closed. Raises
+        OutOfMemory, and then nothing has changed."""
+        for words in self._kept.calls():
+            node.call(words)
+        self.node.close()
+        self.node, self._listed = node, None
+        self._kept.renew()
+        self._alarms.read([], time.monotonic())
+        self._settle()
 
     def timers(self) -> List[str]:
         """The timers that have an alarm."""
@@ -96,11 +130,13 @@ class Station:
                 key.data()
         self._receive()
         self._fire()
+        self._tick()
 
     def _patience(self, until: Optional[float]) -> Optional[float]:
         if self.cable.has_more():
             return 0
-        ends = [it for it in (until, self._alarms.first()) if it is not None]
+        due = [it.due for it in self._clocks]
+        ends = [it for it in (until, self._alarms.first(), *due) if it is not None]
         return max(0.0, min(ends) - time.monotonic()) if ends else None
 
     def _receive(self) -> None:
@@ -117,6 +153,12 @@ class Station:
         report = self.node.receive(datagram)
         if report.refusal is not None:
             self.cable.counts.drop(f"refused: {report.refusal.sentence}")
+        if report.kind == "ignored":
+            self.cable.counts.ignore(datagram)
+        self._take_report(report)
+
+    def _take_report(self, report: Report) -> None:
+        self._kept.heard(report, time.monotonic())
         self._settle()
         self.hear(report)
 
@@ -127,9 +169,14 @@ class Station:
             if timer is None:
                 return
             self._listed = None
-            report = self.node.timer(timer)
-            self._settle()
-            self.hear(report)
+            self._take_report(self.node.timer(timer))
+
+    def _tick(self) -> None:
+        now = time.monotonic()
+        for clock in self._clocks:
+            if clock.due <= now:
+                clock.due = now + clock.seconds
+                clock.do()
 
     def _settle(self) -> None:
         """Sends what the node has to send, and reads its timers."""

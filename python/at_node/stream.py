@@ -37,7 +37,7 @@ class Stream:
 
     def hear(self, report: Report) -> None:
         """Takes what the node reports. Reports of other ends are passed over."""
-        if report.words[1:2] != [str(self.end)]:
+        if report.end != self.end:
             return
         if report.kind == "heard":
             self._read()

@@ -28,10 +28,14 @@ def word_of_text(text: Union[str, bytes]) -> str:
 
 def text_of_word(word: str) -> str:
     """The text of a word."""
+    return name_of_word(word).decode(CHARSET)
+
+
+def name_of_word(word: str) -> bytes:
+    """The bytes of a text, of its word."""
     if word == "%":
-        return ""
-    spelled = _SPELLED.sub(lambda found: chr(int(found[1], 16)), word)
-    return spelled.encode("latin-1").decode(CHARSET)
+        return b""
+    return _SPELLED.sub(lambda found: chr(int(found[1], 16)), word).encode("latin-1")
 
 
 def word_of_bytes(data: bytes) -> str:

@@ -9,7 +9,7 @@ from typing import Callable, Deque, List, Optional, Tuple
 
 from at_node import CableFault, Node
 from at_node.cable import Cable, Counts
-from at_node.ltoudp import Wire
+from at_node.wire import Wire
 from at_node.report import Report
 from at_node.station import Station, setup_of
 

@@ -6,9 +6,10 @@ import unittest
 from typing import Callable, List, Optional
 from unittest import mock
 
-from at_node import NumberTaken, llap, ltoudp
+from at_node import NumberTaken, llap, ltoudp, numbering
 from at_node.llap import ACK, ENQ, LONG, RTS, SHORT, Frame
-from at_node.ltoudp import LtoudpCable, Wire
+from at_node.ltoudp import LtoudpCable
+from at_node.wire import GROUP, PORT, Wire
 from cables import LOOPBACK, has_multicast, has_waited
 from test_llap import LOOKUP, lookup
 
@@ -127,7 +128,7 @@ class Wires(unittest.TestCase):
 
     def test_a_payload_that_is_cut_short_is_counted(self) -> None:
         cable = self.cable(7)
-        self.other._socket.sendto(b"abcd\x07\x09", (ltoudp.GROUP, ltoudp.PORT))
+        self.other._socket.sendto(b"abcd\x07\x09", (GROUP, PORT))
         time.sleep(0.05)
         self.assertIsNone(cable.receive())
         self.assertEqual(cable.counts.line(), "received 1, sent 0, dropped 1: 1 cut short")
@@ -183,14 +184,14 @@ class Numbers(unittest.TestCase):
 
     def patch(self, name: str, value: object) -> None:
         """Gives a constant of the module another value for this test."""
-        patch = mock.patch.object(ltoudp, name, value)
+        patch = mock.patch.object(numbering, name, value)
         patch.start()
         self.addCleanup(patch.stop)
 
     def take(self, wanted: Optional[int] = None, server: bool = False) -> int:
         wire = Wire(LOOPBACK)
         try:
-            return ltoudp.take_number(wire, wanted, server)
+            return numbering.take_number(wire, wanted, server)
         finally:
             wire.close()
 
@@ -198,7 +199,7 @@ class Numbers(unittest.TestCase):
         self.patch("PATIENCE", 0.2)
         wire, other = Wire(LOOPBACK), Wire(LOOPBACK)
         begun = time.monotonic()
-        self.assertFalse(ltoudp.is_taken(wire, 7))
+        self.assertFalse(numbering.is_taken(wire, 7))
         self.assertTrue(has_waited(begun, 1.6))
         frames = [other.frame_of(it) for it in payloads(other, 0.1)]
         self.assertEqual(frames, [Frame(7, 7, ENQ, b"")] * 8)
@@ -268,7 +269,7 @@ class Numbers(unittest.TestCase):
             wire, other = Wire(LOOPBACK), Wire(LOOPBACK)
             wire.sender, other.sender = b"\x80\0\0\0", sender
             other.send(Frame(7, 7, ENQ, b""))
-            self.assertEqual(ltoudp.is_taken(wire, 7), is_taken)
+            self.assertEqual(numbering.is_taken(wire, 7), is_taken)
             heard = [other.frame_of(it) for it in payloads(other, 0.1)]
             self.assertEqual([it for it in heard if it is not None and it.kind == ACK], frames)
             wire.close()

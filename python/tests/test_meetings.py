@@ -6,8 +6,9 @@ import subprocess
 import sys
 import unittest
 
-from at_node import CableFault, ltoudp
-from at_node.ltoudp import LtoudpCable, Wire
+from at_node import CableFault
+from at_node.ltoudp import LtoudpCable
+from at_node.wire import PORT, Wire
 from cables import LOOPBACK, Place, has_multicast, place, run
 
 HAS_MULTICAST = has_multicast()
@@ -51,7 +52,8 @@ class Errors(unittest.TestCase):
     def told(self, command: str) -> str:
         """What a wire says of its opening after a shell command, in a network of its own."""
         program = (
-            "from at_node.ltoudp import Wire, take_number\n"
+            "from at_node.wire import Wire\n"
+            "from at_node.numbering import take_number\n"
             "from at_node import CableFault\n"
             "import sys\n"
             "try: take_number(Wire(*sys.argv[1:]), 7)\n"
@@ -84,7 +86,7 @@ class Errors(unittest.TestCase):
     @needs_multicast
     def test_a_port_that_is_not_shared_is_told(self) -> None:
         with socket.socket(socket.AF_INET, socket.SOCK_DGRAM) as greedy:
-            greedy.bind(("", ltoudp.PORT))
+            greedy.bind(("", PORT))
             with self.assertRaises(CableFault) as fault:
                 Wire(LOOPBACK)
         told = str(fault.exception)

@@ -11,7 +11,7 @@ import threading
 import unittest
 from typing import Any, List, Tuple
 
-from at_node.ltoudp import GROUP, PORT, Wire
+from at_node.wire import GROUP, PORT, Wire
 from cables import has_multicast
 
 BRIDGE = os.environ.get("AT_NODE_BRIDGE", "")
