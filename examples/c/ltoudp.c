@@ -3,9 +3,11 @@
    reports, answers what its service is asked with the byte 2A, and reads what comes by streams. At the end of its lines
    it ends.
 
-       ./ltoudp NUMBER [INTERFACE]
+       ./ltoudp NUMBER [INTERFACE [NET ROUTER ZONE]]
 
-   INTERFACE is the address of an interface, if the cable is not at that of the multicast route. There is no router.
+   INTERFACE is the address of an interface, if the cable is not at that of the multicast route; 0.0.0.0 is the latter.
+   The other three say where the node is on the cable of a router: the numbers of the network and of the router, and the
+   name of the node's zone, with %20 for a space. Without them nobody finds it there.
 
    To build it, once `./atnode install` is done:
 
@@ -29,7 +31,7 @@
 enum { SENDER = 4, PORT = 1954 };
 /* A number is asked for so many times, with so many milliseconds for each answer. */
 enum { ASKINGS = 8, PATIENCE = 200 };
-enum { NET = 10, MAX_OWN = 64, MAX_TEXT = 16384, MAX_LINE = 4096 };
+enum { MAX_OWN = 64, MAX_TEXT = 16384, MAX_LINE = 4096, MAX_SETUP = 512 };
 
 struct datagram {
     size_t length;
@@ -39,6 +41,9 @@ struct datagram {
 static at_node node = AT_NODE_NONE;
 static struct alarms alarms;
 static uint8_t number;
+/* Without a router, whose number is 0 then, others never see the network's. */
+static unsigned network = 10;
+static uint8_t router;
 static int wire;
 static uint8_t sender[SENDER];
 static struct sockaddr_in group;
@@ -123,9 +128,14 @@ static void take_number(void) {
     }
 }
 
-/* Sends a datagram with the short header. Without a router no other network can be reached. */
+/* Sends a datagram with the short header, or to another network with the long one, by way of the router. Without a
+   router the network is 0 in the tuples of names. */
 static void send_datagram(uint8_t to, uint8_t *bytes, size_t length) {
-    uint8_t *with_short_header = short_of(bytes, &length, NET);
+    if (router != 0 && two_bytes(bytes + 4) != network) {
+        send_frame(router, LONG, bytes, length);
+        return;
+    }
+    uint8_t *with_short_header = short_of(bytes, &length, router != 0 ? 0 : network);
     send_frame(to, SHORT, with_short_header, length);
 }
 
@@ -188,7 +198,7 @@ static void take_frame(const uint8_t *frame, size_t length) {
     if (frame[2] == ENQ && frame[0] == number) {
         send_frame(number, ACK, NULL, 0);
     } else if (frame[2] == SHORT) {
-        size_t whole = long_of(frame, length, bytes, NET);
+        size_t whole = long_of(frame, length, bytes, network);
         if (whole > 0) take(at_node_receive(&node, bytes, whole));
     } else if (frame[2] == LONG) {
         take(at_node_receive(&node, frame + FRAME, length - FRAME));
@@ -248,17 +258,36 @@ static int go_on(void) {
     return is_there;
 }
 
+/* A number of the command line, from 1 on. */
+static unsigned number_of(const char *word, unsigned most) {
+    char *end;
+    unsigned long value = strtoul(word, &end, 10);
+    if (*end != '\0' || value < 1 || value > most) fail("usage: ltoudp NUMBER [INTERFACE [NET ROUTER ZONE]]");
+    return (unsigned)value;
+}
+
+/* Opens the node, of this zone if there is a router. */
+static void open_node(const char *zone) {
+    char setup[MAX_SETUP];
+    int length = zone == NULL ? snprintf(setup, sizeof setup, "net %u\nnode %u\n", network, number)
+                              : snprintf(setup, sizeof setup, "net %u\nnode %u router zone %s\nnode %u zone %s\n",
+                                         network, router, zone, number, zone);
+    if (length >= MAX_SETUP) fail("the name of the zone is too long");
+    if (at_node_open(&node, (const uint8_t *)setup, (size_t)length, number) != AT_NODE_OK) fail("no node");
+}
+
 int main(int argc, char **argv) {
-    char setup[32];
-    long wanted = argc > 1 ? strtol(argv[1], NULL, 10) : 0;
-    if (argc > 3 || wanted < 1 || wanted > 254) fail("usage: ltoudp NUMBER [INTERFACE]");
-    number = (uint8_t)wanted;
+    int is_routed = argc == 6;
+    number = (uint8_t)number_of(argc == 2 || argc == 3 || is_routed ? argv[1] : "", 254);
+    if (is_routed) {
+        network = number_of(argv[3], 65535);
+        router = (uint8_t)number_of(argv[4], 254);
+    }
     setvbuf(stdout, NULL, _IOLBF, 0);
     draw_sender();
-    join(argc == 3 ? argv[2] : NULL);
+    join(argc > 2 ? argv[2] : NULL);
     take_number();
-    int length = snprintf(setup, sizeof setup, "net %d\nnode %u\n", NET, number);
-    if (at_node_open(&node, (const uint8_t *)setup, (size_t)length, number) != AT_NODE_OK) fail("no node");
+    open_node(is_routed ? argv[5] : NULL);
     while (go_on()) continue;
     at_node_close(&node);
     close(wire);
