@@ -77,6 +77,8 @@ class Station:
         """Node and cable stay the caller's. `hear` is called with what the node reports of each
         datagram and timer, and may call the node by `call`."""
         self.node, self.cable, self.hear = node, cable, hear
+        # What came, while `hear` is called with its report; None of a timer's.
+        self.datagram: Optional[bytes] = None
         self._alarms, self._kept = Alarms(intervals), Kept()
         self._clocks: List[_Clock] = []
         self._selector = selectors.PollSelector()
@@ -102,6 +104,11 @@ class Station:
         self._kept.called(line_of_words(words).decode().split(), report, time.monotonic())
         self._settle()
         return report
+
+    def settle(self) -> None:
+        """Sends what the node has to send, and reads its timers. Whoever called the node itself
+        owes this."""
+        self._settle()
 
     def is_busy(self) -> bool:
         """Whether the node has a stream, a transaction or a lookup, or is to answer a request."""
@@ -155,7 +162,9 @@ class Station:
             self.cable.counts.drop(f"refused: {report.refusal.sentence}")
         if report.kind == "ignored":
             self.cable.counts.ignore(datagram)
+        self.datagram = datagram
         self._take_report(report)
+        self.datagram = None
 
     def _take_report(self, report: Report) -> None:
         self._kept.heard(report, time.monotonic())

@@ -51,6 +51,28 @@ class Stations(unittest.TestCase):
             assert isinstance(five.cable, MemoryCable)
             self.assertEqual(len(five.cable.sent), 4)
 
+    def test_a_report_of_a_datagram_is_heard_with_it_and_one_of_a_timer_with_none(self) -> None:
+        with place(MemoryCable(), 5) as five:
+            assert isinstance(five.cable, MemoryCable)
+            came: List[Optional[bytes]] = []
+            five.station.hear = lambda report: came.append(five.station.datagram)
+            five.cable.coming.append(b"\0\x15 and no more")
+            five.station.step(0)
+            five.station.call("find = =")
+            while len(came) < 2:
+                five.station.step()
+            self.assertEqual(came, [b"\0\x15 and no more", None])
+            self.assertIsNone(five.station.datagram)
+
+    def test_whoever_calls_the_node_itself_settles_it(self) -> None:
+        with place(MemoryCable(), 5) as five:
+            assert isinstance(five.cable, MemoryCable)
+            five.node.call("find = =")
+            self.assertEqual((five.cable.sent, five.station.timers()), ([], []))
+            five.station.settle()
+            self.assertEqual([to for to, _ in five.cable.sent], [255])
+            self.assertEqual(five.station.timers(), ["lookup 0"])
+
     def test_a_step_waits_and_does_not_spin(self) -> None:
         with place(MemoryCable(), 5) as five:
             begun, used = time.monotonic(), time.process_time()
