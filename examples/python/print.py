@@ -10,91 +10,150 @@ and answers each request for data, until the printer says that it has all.
 from __future__ import annotations
 
 import argparse
+import contextlib
+import random
+import re
 import sys
 import time
 from pathlib import Path
 from typing import List, Optional
 
 import pap
-from at_node import Fault, Find, Refused, Report, word_of_bytes, word_of_text
+from at_node import Fault, Find, Packet, Refused, Report, word_of_text
 from at_node.joining import add_words, check_words, station_of
 from at_node.station import Station
+from connection import Connection, Peer
+from service import Service
 
-RETRIES, CONNECTION = 20, 0x2A
-# The seconds of a lookup, between two tries of a busy printer, and of everything.
+# The seconds of a lookup, between two tries of a busy printer, and of all of them.
 LOOKUP, BUSY, PATIENCE = 3.0, 1.0, 300.0
+# How a PostScript printer says that a job failed.
+ERROR = re.compile(rb"%%\[ *(Error:.*?) *\]%%", re.DOTALL)
 
 
 class NoPrint(Exception):
-    """Why nothing was printed."""
+    """Why nothing was printed, or not all."""
 
 
 class Client:
     """One connection to a printer, which sends `data`."""
 
     def __init__(self, station: Station, printer: Find, data: bytes) -> None:
-        self._station, self._printer = station, printer
-        places = range(0, max(len(data), 1), pap.PACKET)
-        self._packets = [data[at:at + pap.PACKET] for at in places]
-        self._sent = 0
+        self._station, self._data = station, data
+        self._who, self._place = str(printer.node), f"{printer.node} {printer.socket}"
+        self._number = random.randint(1, 255)
+        self._service = Service(station, self._hear, self._asked)
         self._last: Optional[Report] = None
-        self._socket = printer.socket
-        station.hear = self._hear
+        self._connection: Optional[Connection] = None
+        # While a connection is asked for, what the printer asked before its reply was read.
+        self._early: Optional[List[pap.Asked]] = None
+        self._began = time.monotonic()
+        # What the printer said, and whether it said that it has all, or why it has not.
+        self._said = b""
+        self._is_printed = False
+        self._fault = ""
 
     def _hear(self, report: Report) -> None:
-        if report.kind in ("response", "failed"):
-            self._last = report
-        elif report.kind == "asked":
-            self._answer(pap.asked_of(report.words))
+        self._last = report
+        if self._connection is not None:
+            self._connection.hear(report)
 
-    def _answer(self, asked: pap.Asked) -> None:
-        """Gives the printer the next packets. A tickle is answered so that its record goes."""
-        packets = [f"{pap.user_bytes(asked.connection, asked.function)}:-"]
-        if asked.function == pap.SEND_DATA:
-            packets = self._next_packets(asked)
-        self._station.call(f"answer {asked.key} {' '.join(packets)}")
+    def _asked(self, asked: pap.Asked) -> None:
+        connection = self._connection
+        is_its = connection is not None and connection.is_its(asked)
+        if asked.function == pap.CLOSE:
+            reply = Packet(pap.user_bytes(asked.connection, pap.CLOSE_REPLY), b"")
+            self._service.answer(asked, [reply])
+            if connection is not None and is_its:
+                connection.stop()
+                self._connection = None
+                self._fault = "the printer closed the connection before it had all"
+        elif connection is not None and is_its:
+            connection.asked(asked)
+        elif self._early is not None and asked.function == pap.SEND_DATA:
+            self._early.append(asked)
+        else:
+            self._service.forget(asked)
 
-    def _next_packets(self, asked: pap.Asked) -> List[str]:
-        packets = self._packets[self._sent:self._sent + pap.QUANTUM]
-        self._sent += len(packets)
-        is_last = self._sent >= len(self._packets)
-        ends = [is_last and at == len(packets) - 1 for at in range(len(packets))]
-        return [
-            f"{pap.user_bytes(asked.connection, pap.DATA, 0x100 * end)}:{word_of_bytes(packet)}"
-            for packet, end in zip(packets, ends)
-        ] or [f"{pap.user_bytes(asked.connection, pap.DATA, 0x100)}:-"]
-
-    def ask(self, user: str, data: bytes = b"", wanted: int = 1, retries: int = RETRIES) -> Report:
-        """Asks the printer, and waits for the response. Raises NoPrint."""
-        to, self._last = f"{self._printer.node} {self._socket}", None
-        asking = self._station.call(f"ask {to} {user} {word_of_bytes(data)} {wanted} xo {retries}")
-        end = time.monotonic() + PATIENCE
-        while self._last is None or self._last.number() != asking.number():
-            if time.monotonic() > end:
-                raise NoPrint("the printer came to no end")
-            self._station.step(end)
+    def ask(self, place: str, user: bytes, data: bytes = b"") -> Packet:
+        """Asks a socket, and waits for the packet of its answer. Raises NoPrint."""
+        asking, self._last = self._service.ask(place, user, data), None
+        while self._last is None or self._last.number() != asking:
+            self._station.step()
         if self._last.kind == "failed":
             raise NoPrint("the printer does not answer")
-        return self._last
+        return self._last.packets()[0]
 
     def status(self) -> str:
-        """What the printer says of itself."""
-        (packet,) = self.ask(pap.user_bytes(0, pap.SEND_STATUS)).packets()
-        return packet.data[5:5 + packet.data[4]].decode("mac_roman")
+        """What the printer says of itself. Raises NoPrint."""
+        return pap.text_of(self.ask(self._place, pap.user_bytes(0, pap.SEND_STATUS)).data[4:])
 
-    def open(self) -> bool:
-        """Asks for a connection. Whether the printer was free."""
-        request = bytes([pap.SERVICE, pap.QUANTUM, 0, 0])
-        (packet,) = self.ask(pap.user_bytes(CONNECTION, pap.OPEN), request).packets()
-        if packet.data[2:4] != b"\0\0":
-            return False
-        self._socket = packet.data[0]
-        return True
+    def open(self) -> str:
+        """Asks for a connection. The status of a printer that is busy, else nothing. Raises
+        NoPrint."""
+        waited = min(int(time.monotonic() - self._began), 0xFFFF)
+        data = bytes([pap.SERVICE, pap.QUANTUM]) + waited.to_bytes(2, "big")
+        early = self._early = []
+        reply = self.ask(self._place, pap.user_bytes(self._number, pap.OPEN), data)
+        self._early = None
+        is_busy = len(reply.data) < 4 or reply.data[2:4] != b"\0\0" or reply.user[2:] == b"\xff\xff"
+        if not is_busy:
+            quantum = min(max(reply.data[1], 1), pap.QUANTUM)
+            peer = Peer(self._who, reply.data[0], self._number, quantum)
+            self._connection = Connection(self._service, peer, self._take)
+        for asked in early:
+            self._asked(asked)
+        return (pap.text_of(reply.data[4:]) or "it says no more") if is_busy else ""
+
+    def _take(self, data: bytes, ends: bool) -> None:
+        """Takes what the printer says. The end of a file says that it has all."""
+        connection = self._connection
+        assert connection is not None, "data come by a connection"
+        sys.stderr.write(data.decode("mac_roman").replace("\r", "\n"))
+        self._said = (self._said + data)[-1 << 14:]
+        if not ends:
+            return
+        connection.stop()
+        if connection.outbox.is_empty():
+            self._is_printed = True
+        else:
+            self._fault = "the printer ended before it had all"
 
     def finish(self) -> None:
-        """Waits until the printer has all, and closes."""
-        self.ask(pap.user_bytes(CONNECTION, pap.SEND_DATA, 1), wanted=pap.QUANTUM, retries=255)
-        self.ask(pap.user_bytes(CONNECTION, pap.CLOSE))
+        """Gives the printer all, and waits until it says so. Raises NoPrint."""
+        connection = self._connection
+        assert connection is not None, "the connection is open"
+        connection.outbox.say(self._data)
+        connection.outbox.end()
+        connection.give()
+        connection.ask_data()
+        while not self._is_printed and not self._fault:
+            self._station.step(time.monotonic() + 1)
+            connection.step()
+            if connection.is_silent():
+                self._fault = "the printer fell silent before it had all"
+        self.close()
+        error = ERROR.search(self._said)
+        if self._fault:
+            raise NoPrint(self._fault)
+        if error is not None:
+            raise NoPrint(f"the printer says: {error[1].decode('mac_roman')}")
+
+    def close(self) -> None:
+        """Closes the connection, if there is one. What was printed stays so without an answer."""
+        connection, self._connection = self._connection, None
+        if connection is None:
+            return
+        connection.stop()
+        place = f"{connection.peer.who} {connection.peer.socket}"
+        with contextlib.suppress(NoPrint):
+            self.ask(place, pap.user_bytes(self._number, pap.CLOSE))
+
+    def leave(self) -> None:
+        """Tells the printer that a connection which is still open is closed, and waits for
+        nothing."""
+        if self._connection is not None:
+            self._connection.close()
 
 
 def find(station: Station, name: str) -> Find:
@@ -115,11 +174,18 @@ def send(station: Station, printer: Find, data: bytes) -> None:
     """Prints the data, once the printer is free. Raises NoPrint."""
     client = Client(station, printer, data)
     end = time.monotonic() + PATIENCE
-    while not client.open():
+    status = client.open()
+    while status:
         if time.monotonic() > end:
-            raise NoPrint("the printer stays busy")
-        station.step(time.monotonic() + BUSY)
-    client.finish()
+            raise NoPrint(f"the printer stays busy: {status}")
+        again = time.monotonic() + BUSY
+        while time.monotonic() < again:
+            station.step(again)
+        status = client.open()
+    try:
+        client.finish()
+    finally:
+        client.leave()
 
 
 def main() -> int:
@@ -142,7 +208,8 @@ def main() -> int:
     except KeyboardInterrupt:
         return 130
     except (Fault, Refused, OSError, NoPrint) as error:
-        print(f"print.py: {error.args[-1]}", file=sys.stderr)
+        has_name = getattr(error, "filename", None) is not None
+        print(f"print.py: {error if has_name else error.args[-1]}", file=sys.stderr)
         return 1
 
 

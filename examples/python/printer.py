@@ -1,12 +1,11 @@
 #!/usr/bin/env python3
 """A printer that programs for AppleTalk print to, on LocalTalk over UDP or on UDP. Each job becomes
-a file:
+a file, and may go to a command:
 
-    printer.py FOLDER [--name NAME] [--udp FIRST --node N | --interface ADDRESS] ..
+    printer.py FOLDER [--name NAME] [--run COMMAND] [--udp FIRST --node N | --interface ADDRESS] ..
 
-It speaks the Printer Access Protocol over the exactly-once service of its node: it asks the client
-for data, eight packets at a time, and answers for its status. One client prints at a time, and
-others hear that it is busy. It prints no pages, and answers no queries in PostScript.
+It speaks the Printer Access Protocol over the exactly-once service of its node. One client prints
+at a time, and others hear that it is busy. It prints no pages itself.
 """
 
 from __future__ import annotations
@@ -15,54 +14,53 @@ import argparse
 import signal
 import sys
 import time
-from dataclasses import dataclass, field
 from pathlib import Path
 from typing import List, Optional
 
 import pap
-from at_node import Fault, Refused, Report, word_of_bytes, word_of_text
+from at_node import Fault, Packet, Report, word_of_text
 from at_node.joining import add_words, check_words, station_of
 from at_node.station import Station
+from connection import Connection, Peer
+from description import description_of
+from documents import Documents
+from jobs import Job
+from queries import Description
+from runner import Runner
+from service import Service
 
 TYPE = "LaserWriter"
-# A request is sent again each two seconds, for as long as a client may be silent.
-RETRIES = 60
 # The seconds for which the name is looked for before it is taken.
 CLAIM = 3.2
+# A client that has so many bytes of answers to read, and reads none, is given up.
+MOST_ANSWERS = 1 << 16
+IDLE, PRINTING = "idle", "busy; source: AppleTalk"
+# The node asks nodes of its own network alone.
+FAR = "this printer serves only clients of its own network"
 
 
-@dataclass
-class Job:
-    """A connection, and what its client sent so far."""
-
-    who: str
-    socket: int
-    connection: int
-    quantum: int
-    heard: float
-    tickled: float
-    sequence: int = 0
-    # The transaction that asks for data, while one is open.
-    asking: Optional[int] = None
-    is_whole: bool = False
-    data: bytearray = field(default_factory=bytearray)
-    # The client's requests that wait: for what the printer has to say, and its last tickle.
-    waiting: List[str] = field(default_factory=list)
-    tickle: Optional[str] = None
+def tell(sentence: str) -> None:
+    """Says on standard error what went wrong."""
+    print(sentence, file=sys.stderr, flush=True)
 
 
 class Printer:
     """A printer of a station, which writes each job as a file of a folder."""
 
-    def __init__(self, station: Station, folder: Path) -> None:
+    def __init__(
+        self,
+        station: Station,
+        folder: Path,
+        runner: Optional[Runner] = None,
+        description: Description = Description(),
+    ) -> None:
         self._station, self._folder = station, folder
-        self._job: Optional[Job] = None
-        self._answers = {
-            pap.OPEN: self._open, pap.SEND_DATA: self._send_data, pap.TICKLE: self._tickle,
-            pap.CLOSE: self._close, pap.SEND_STATUS: self._send_status,
-        }
+        self._runner, self._description = runner, description
+        self._service = Service(station, self._hear, self._asked)
+        # One client's connection, and the documents that it sends.
+        self._connection: Optional[Connection] = None
+        self._documents: Optional[Documents] = None
         self.jobs: List[Path] = []
-        station.hear = self.hear
 
     def claim(self, name: str) -> bool:
         """Takes the name, unless another node of the cable has it."""
@@ -72,131 +70,146 @@ class Printer:
             self._station.step(end)
         return self._station.call(f"finish {lookup}").kind == "claimed"
 
-    def step(self) -> None:
-        """Waits a second at most, and does what there is to do."""
-        now = time.monotonic()
-        self._station.step(now + 1)
-        job = self._job
-        if job is not None and now - job.heard > pap.SILENCE:
-            self._end("a client fell silent, and its job is dropped")
-        elif job is not None and now - job.tickled > pap.TICKLES:
-            job.tickled = now
-            self._ask(job, pap.TICKLE, 1, "alo", 0)
+    def step(self, seconds: float = 1.0) -> None:
+        """Waits so long at most, and does what there is to do."""
+        self._station.step(time.monotonic() + seconds)
+        if self._runner is not None:
+            self._runner.step()
+        if self._connection is None:
+            return
+        if self._connection.is_silent():
+            self._drop("a client fell silent")
+        else:
+            self._connection.step()
 
-    def hear(self, report: Report) -> None:
-        """Takes what the node reports."""
-        job = self._job
-        if report.kind == "asked":
-            self._asked(pap.asked_of(report.words))
-        elif job is not None and report.begins(["response", str(job.asking)]):
-            self._take(job, report)
-        elif job is not None and report.begins(["failed", str(job.asking)]):
-            self._end("a client gave no data, and its job is dropped")
+    def close(self) -> None:
+        """Ends the connection that is open, and tells which jobs were not given to the command."""
+        if self._connection is not None:
+            self._drop("the printer is ended")
+        if self._runner is not None:
+            self._runner.close()
+
+    def _hear(self, report: Report) -> None:
+        if self._connection is not None:
+            self._connection.hear(report)
 
     def _asked(self, asked: pap.Asked) -> None:
-        job = self._job
-        if job is not None and job.who == asked.who:
-            job.heard = time.monotonic()
-        answer = self._answers.get(asked.function)
-        if answer is None:
-            self._answer(asked.key, pap.user_bytes(asked.connection, 0))
+        connection = self._connection
+        is_its = connection is not None and connection.is_its(asked)
+        if asked.function == pap.OPEN:
+            self._open(asked)
+        elif asked.function == pap.SEND_STATUS:
+            packet = Packet(pap.user_bytes(0, pap.STATUS), bytes(4) + self._status(asked))
+            self._service.answer(asked, [packet])
+        elif asked.function == pap.CLOSE:
+            self._closed(asked, is_its)
+        elif asked.function not in (pap.SEND_DATA, pap.TICKLE):
+            self._service.answer(asked, [Packet(pap.user_bytes(asked.connection, 0), b"")])
+        elif connection is not None and is_its:
+            connection.asked(asked)
         else:
-            answer(asked)
+            # No end of file: of a job that was dropped it would be a lie.
+            self._service.forget(asked)
 
-    def _answer(self, key: str, user: str, data: bytes = b"") -> None:
-        try:
-            self._station.call(f"answer {key} {user}:{word_of_bytes(data)}")
-        except Refused as refusal:
-            print(f"an answer was refused: {refusal}", file=sys.stderr)
-
-    def _ask(self, job: Job, function: int, wanted: int, mode: str, retries: int) -> int:
-        user = pap.user_bytes(job.connection, function, job.sequence * (function == pap.SEND_DATA))
-        words = f"ask {job.who} {job.socket} {user} - {wanted} {mode} {retries}"
-        return self._station.call(words).number()
-
-    def _ask_data(self, job: Job) -> None:
-        job.sequence = job.sequence % 0xFFFF + 1
-        job.asking = self._ask(job, pap.SEND_DATA, job.quantum, "xo", RETRIES)
-
-    def _status(self) -> bytes:
-        state = "idle" if self._job is None else "busy; source: AppleTalk"
-        return pap.counted(f"status: {state}")
-
-    def _send_status(self, asked: pap.Asked) -> None:
-        self._answer(asked.key, pap.user_bytes(0, pap.STATUS), bytes(4) + self._status())
+    def _status(self, asked: pap.Asked) -> bytes:
+        """What a client is told of the printer."""
+        state = IDLE if self._connection is None else PRINTING
+        return pap.counted(f"status: {FAR if '.' in asked.who else state}")
 
     def _open(self, asked: pap.Asked) -> None:
-        # The node asks nodes of its own network alone.
-        is_free = self._job is None and "." not in asked.who and len(asked.data) >= 2
+        has_place = len(asked.data) >= 2 and 1 <= asked.data[0] <= 254
+        is_free = self._connection is None and has_place and "." not in asked.who
         result = pap.OPENED if is_free else pap.BUSY
-        reply = bytes([pap.SERVICE, pap.QUANTUM]) + result.to_bytes(2, "big") + self._status()
-        self._answer(asked.key, pap.user_bytes(asked.connection, pap.OPEN_REPLY), reply)
+        reply = bytes([pap.SERVICE, pap.QUANTUM]) + result.to_bytes(2, "big") + self._status(asked)
+        user = pap.user_bytes(asked.connection, pap.OPEN_REPLY)
+        self._service.answer(asked, [Packet(user, reply)])
         if is_free:
-            now = time.monotonic()
             quantum = min(max(asked.data[1], 1), pap.QUANTUM)
-            self._job = Job(asked.who, asked.data[0], asked.connection, quantum, now, now)
-            self._ask_data(self._job)
+            self._begin(Peer(asked.who, asked.data[0], asked.connection, quantum))
 
-    def _job_of(self, asked: pap.Asked) -> Optional[Job]:
-        """The job of a request, or None if it is of another client or connection."""
-        job = self._job
-        is_its = job is not None and (job.who, job.connection) == (asked.who, asked.connection)
-        return job if is_its else None
+    def _begin(self, peer: Peer) -> None:
+        self._connection = Connection(self._service, peer, self._take)
+        outbox = self._connection.outbox
+        self._documents = Documents(self._folder, self._description, outbox, self._done)
+        self._connection.ask_data()
 
-    def _send_data(self, asked: pap.Asked) -> None:
-        """The client asks what the printer has to say: nothing, once the job is whole."""
-        job = self._job_of(asked)
-        if job is not None and not job.is_whole:
-            job.waiting.append(asked.key)
+    def _take(self, data: bytes, ends: bool) -> None:
+        """Takes data of a client, and says what there is to say."""
+        connection, documents = self._connection, self._documents
+        assert connection is not None and documents is not None, "data come by a connection"
+        try:
+            documents.feed(data)
+            if ends:
+                documents.end()
+        except OSError as error:
+            self._drop(f"a job can't be written to {self._folder}, {error.strerror}")
+            return
+        if connection.outbox.waits() > MOST_ANSWERS:
+            self._drop("a client reads no answers")
         else:
-            self._answer(asked.key, pap.user_bytes(asked.connection, pap.DATA, 0x100))
+            connection.give()
 
-    def _tickle(self, asked: pap.Asked) -> None:
-        """A tickle wants no answer. The one before gets one, so that its record goes."""
-        job = self._job_of(asked)
-        older = asked.key if job is None else job.tickle
-        if job is not None:
-            job.tickle = asked.key
-        if older is not None:
-            self._answer(older, pap.user_bytes(asked.connection, pap.TICKLE))
+    def _done(self, job: Job) -> None:
+        """A job is whole."""
+        assert self._connection is not None and job.path is not None, "a whole job has its path"
+        self.jobs.append(job.path)
+        print(f"{job.path}: {job.size} bytes from node {self._connection.peer.who}", flush=True)
+        if self._runner is not None:
+            self._runner.add(job.path)
 
-    def _close(self, asked: pap.Asked) -> None:
-        self._answer(asked.key, pap.user_bytes(asked.connection, pap.CLOSE_REPLY))
-        job = self._job_of(asked)
-        if job is not None:
-            self._end("" if job.is_whole else "a client closed before the end of its job")
+    def _closed(self, asked: pap.Asked, is_its: bool) -> None:
+        """A client closes its connection, or one that has ended."""
+        if is_its:
+            self._end("a client closed before the end of its job")
+        reply = Packet(pap.user_bytes(asked.connection, pap.CLOSE_REPLY), b"")
+        self._service.answer(asked, [reply])
 
-    def _take(self, job: Job, report: Report) -> None:
-        """Takes data, and asks for more of it."""
-        job.asking, job.heard = None, time.monotonic()
-        packets = report.packets()
-        for packet in packets:
-            if packet.user[:2] == bytes([job.connection, pap.DATA]):
-                job.data += packet.data
-        if any(packet.user[2] for packet in packets):
-            self._finish(job)
-        else:
-            self._ask_data(job)
+    def _drop(self, why: str) -> None:
+        """Closes the connection. Its client hears of no end of file, but that it is closed."""
+        assert self._connection is not None, "a connection is closed once"
+        self._connection.close()
+        self._end(why, is_lost=True)
 
-    def _finish(self, job: Job) -> None:
-        """Writes the job, and says so to whoever waits for what the printer has to say."""
-        path = self._folder / f"job-{len(self.jobs) + 1:04}.ps"
-        path.write_bytes(job.data)
-        self.jobs.append(path)
-        print(f"{path}: {len(job.data)} bytes from node {job.who}", flush=True)
-        job.is_whole = True
-        for key in job.waiting:
-            self._answer(key, pap.user_bytes(job.connection, pap.DATA, 0x100))
-        job.waiting.clear()
+    def _end(self, why: str, is_lost: bool = False) -> None:
+        """Ends the connection, and says why if a job is lost, or the client did not close."""
+        connection, documents = self._connection, self._documents
+        assert connection is not None and documents is not None, "a connection ends once"
+        self._connection = self._documents = None
+        connection.stop()
+        who, size = connection.peer.who, documents.size()
+        if size:
+            tell(f"{why}, and its job is dropped: {size} bytes from node {who}")
+        elif is_lost:
+            tell(f"{why}: node {who}")
+        try:
+            documents.drop()
+        except OSError as error:
+            tell(f"a job that was dropped can't be removed: {error}")
 
-    def _end(self, why: str) -> None:
-        """Ends the connection. What still waits is answered, so that its record goes."""
-        job, self._job = self._job, None
-        assert job is not None, "a connection ends once"
-        for key in [*job.waiting, *([job.tickle] if job.tickle else [])]:
-            self._answer(key, pap.user_bytes(job.connection, pap.DATA, 0x100))
-        if why:
-            print(f"{why}: {len(job.data)} bytes from node {job.who}", file=sys.stderr, flush=True)
+
+def serve(printer: Printer) -> None:
+    """Prints until a signal comes. What is begun in a step is ended before the printer is."""
+    signals: List[int] = []
+    for number in (signal.SIGINT, signal.SIGTERM):
+        signal.signal(number, lambda came, _: signals.append(came))
+    while not signals:
+        printer.step()
+    printer.close()
+
+
+def run(words: argparse.Namespace) -> int:
+    """Prints until a signal comes. Raises Fault or OSError."""
+    words.folder.mkdir(parents=True, exist_ok=True)
+    description = Description() if words.ppd is None else description_of(words.ppd)
+    runner = None if words.run is None else Runner(words.run, tell)
+    with station_of(words) as (number, station):
+        printer = Printer(station, words.folder, runner, description)
+        if not printer.claim(words.name):
+            tell(f"another node has the name {words.name}")
+            return 1
+        print(f"{words.name} is node {number}", flush=True)
+        serve(printer)
+    return 0
 
 
 def main() -> int:
@@ -204,23 +217,22 @@ def main() -> int:
     parser = argparse.ArgumentParser(description=__doc__.partition("\n\n")[0])
     parser.add_argument("folder", type=Path, help="where jobs are written")
     parser.add_argument("--name", default="Paper Printer", help="the printer's name")
+    parser.add_argument("--run", metavar="COMMAND",
+        help="a command of the shell that gets each job on its standard input, such as lp; the "
+        "job's file is removed if it succeeds")
+    parser.add_argument("--ppd", metavar="FILE", type=Path,
+        help="the description of the printer behind, from which queries are answered")
     add_words(parser)
     words = parser.parse_args()
     check_words(parser, words)
     signal.signal(signal.SIGTERM, lambda *_: sys.exit(0))
     try:
-        with station_of(words) as (number, station):
-            printer = Printer(station, words.folder)
-            if not printer.claim(words.name):
-                print(f"another node has the name {words.name}", file=sys.stderr)
-                return 1
-            print(f"{words.name} is node {number}", flush=True)
-            while True:
-                printer.step()
+        return run(words)
     except KeyboardInterrupt:
         return 0
     except (Fault, OSError) as error:
-        print(f"printer.py: {error.args[-1]}", file=sys.stderr)
+        has_name = getattr(error, "filename", None) is not None
+        tell(f"printer.py: {error if has_name else error.args[-1]}")
         return 1
 
 
