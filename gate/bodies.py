@@ -7,12 +7,17 @@ from dataclasses import dataclass, field
 from pathlib import Path
 from typing import Any
 
+from copies import Function, function_at, lines_of_copy, proofs_of_copy
+
 # A body that was tried so often is tried alone.
 TRIES = 3
 # A function by its file and the line, counted from 0, on which it begins. None is a place outside all bodies.
 Place = tuple[str, int] | None
 FN = re.compile(r'( *)(?:pub(?:\([^)]*\))? )?(?:const |unsafe |final |extern "C" )*fn (\w+)')
 HEAD = re.compile(r" *(.*\bfn |\)|where\b)(.*[^{])?$")
+CONSTANT = re.compile(r"\s*(?:pub(?:\([^)]*\))? )?(?:const |static )(\w+):")
+# An import, or another constant, says nothing by itself.
+NO_USE = re.compile(r"\s*(?:pub(?:\([^)]*\))? )?(?:use|const|static|ghost use) ")
 
 
 def head_of(lines: list[str], at: int) -> int | None:
@@ -45,9 +50,24 @@ def module_of(crate: str, path: str) -> str:
     return "::".join([crate, *re.sub(r"(/(lib|main|mod))?\.rt$", "", path).split("/")[1:]])
 
 
+def users_of(crate: Any, line: str) -> set[Place]:
+    """The functions in whose bodies the constant stands that a line defines; none if it defines none."""
+    found = CONSTANT.match(line)
+    places: set[Place] = set()
+    for file in sorted(Path(crate.folder, "src").rglob("*.rt")) if found else ():
+        lines = file.read_text("utf-8").split("\n")
+        for at, it in enumerate(lines):
+            if re.search(rf"\b{found[1]}\b", it.partition("//")[0]) and not NO_USE.match(it):
+                head = head_of(lines, at)
+                if head is not None:
+                    places.add((str(file.relative_to(crate.folder)), head))
+    return places
+
+
 @dataclass
 class Body:
-    """A wrong body. `avoids` names functions that may not be wrong beside it, and `why` says why it can't be set in."""
+    """A wrong body. `avoids` names functions that may not be wrong beside it, and `why` says why it can't be set in.
+    `copy` is the name of the copy of its function that has it, where it is not set in in place."""
 
     name: str
     why: str = ""
@@ -56,14 +76,26 @@ class Body:
     functions: set[str] = field(default_factory=set)
     avoids: set[str] = field(default_factory=set)
     tries: int = 0
+    # The lines on which it stands in the files that were checked last.
+    stands: set[tuple[str, int]] = field(default_factory=set)
+    copy: str = ""
+    # The function in which the body stands, if it is one alone and a copy of it may be made.
+    function: Function | None = None
+    # Whether the body is a constant, which is wrong for each copy of its users too.
+    is_constant: bool = False
 
     def may_join(self, group: list[Body]) -> bool:
-        """Whether it may be tried beside these: no function has two wrong bodies, none that it waits for has one."""
+        """Whether it may be tried beside these: no function has two wrong bodies, none that it waits for has one. A
+        second body of a function is set in as a copy, the first time that it is tried."""
+        self.copy = ""
         if not group or any(it.tries >= TRIES for it in [self, *group]):
             return not group
-        return not any(
-            self.places & it.places or self.functions & it.avoids or self.avoids & it.functions for it in group
-        )
+        if any(self.functions & it.avoids or self.avoids & it.functions for it in group):
+            return False
+        beside = [it for it in group if self.places & it.places]
+        if beside and self.function and not self.tries and not any(it.is_constant for it in beside):
+            self.copy = f"{self.function.name}_w{len(beside) + 1}"
+        return not beside or bool(self.copy)
 
     def name_functions(self, crate: Any, known: set[str]) -> None:
         """Looks up what a report calls its functions. A body outside them, or in one without a name, is tried alone."""
@@ -72,6 +104,12 @@ class Body:
             name = place and name_of(lines, place[1], module_of(crate.name, place[0]), known)
             self.functions |= {name} if name else set()
             self.tries += 0 if name else TRIES
+
+    def told(self) -> set[str]:
+        """The functions of a report that tell of this body, as it was set in last."""
+        if not self.copy:
+            return self.functions
+        return {f"{it.rpartition('::')[0]}::{self.copy}" for it in self.functions}
 
 
 def read_body(rt: Any, crate: Any, edit: Path) -> Body:
@@ -84,18 +122,47 @@ def read_body(rt: Any, crate: Any, edit: Path) -> Body:
             if was[at] != new:
                 body.lines[path, at] = new
                 head = head_of(was, at) if path.startswith("src/") else None
-                body.places.add(None if head is None else (path, head))
+                users = users_of(crate, was[at]) if head is None else set()
+                body.places |= {(path, head)} if head is not None else users or {None}
+                body.is_constant |= bool(users)
+                if head is not None:
+                    body.function = function_at(path, was, head)
     body.tries = TRIES if why or None in body.places else 0
+    if body.is_constant or len(body.places) > 1 or (body.function and not body.function.can_be_copied()):
+        body.function = None
     return body
 
 
 def texts_of(crate: Any, group: list[Body]) -> dict[str, str]:
-    """The files of a crate with all bodies of a group in their places."""
-    files: dict[str, list[str]] = {}
+    """The files of a crate with all bodies of a group in their places, or in copies of their functions. Each body is
+    told on which lines it stands there."""
+    files: dict[str, list[tuple[str, str]]] = {}
+    texts: dict[str, str] = {}
+    sources: dict[str, list[str]] = {}
+    for path in {path for body in group for path, _ in body.lines}:
+        sources[path] = Path(crate.folder, path).read_text("utf-8").split("\n")
+        files[path] = [(line, "") for line in sources[path]]
     for body in group:
         for (path, at), line in body.lines.items():
-            files.setdefault(path, Path(crate.folder, path).read_text("utf-8").split("\n"))[at] = line
-    return {path: "\n".join(lines) for path, lines in files.items()}
+            if not body.copy:
+                files[path][at] = (line, body.name)
+    # (from the last on, so that those above keep their lines)
+    for body in sorted((it for it in group if it.copy), key=lambda it: -it.function.end):
+        texts |= proofs_of_copy(crate, body.function, body.copy)
+        add_copy(crate, body, sources[body.function.path], files[body.function.path])
+    stands = {(path, at + 1): name for path, rows in files.items() for at, (_, name) in enumerate(rows) if name}
+    for body in group:
+        body.stands = {place for place, name in stands.items() if name == body.name}
+    return texts | {path: "\n".join(line for line, _ in rows) for path, rows in files.items()}
+
+
+def add_copy(crate: Any, body: Body, lines: list[str], rows: list[tuple[str, str]]) -> None:
+    """Puts the copy of a body's function right below it."""
+    calls_itself = any(it.name.startswith("+") for it in body.function.proofs(crate))
+    changed = {at: line for (_, at), line in body.lines.items()}
+    copy = lines_of_copy(body.function, lines, changed, body.copy, calls_itself)
+    end = body.function.end + 1
+    rows[end:end] = [(line, body.name) for line in copy]
 
 
 def asked_of(crate: Any, group: list[Body], has_names: bool) -> set[str]:
@@ -107,6 +174,6 @@ def asked_of(crate: Any, group: list[Body], has_names: bool) -> set[str]:
     if None in places:
         return set()
     if has_names and all(body.functions for body in group):
-        return {it.partition("::")[2] for body in group for it in body.functions}
+        return {it.partition("::")[2] for body in group for it in body.told()}
     modules = {module_of(crate.name, it[0]).partition("::")[2] for it in places if it}
     return set() if "" in modules else modules

@@ -100,12 +100,12 @@ class Report:
 
     def stray(self, group: list[Body]) -> str:
         """An open goal of a function in which no body of the group stands, as words."""
-        own = {it for body in group for it in body.functions}
+        own = {it for body in group for it in body.told()}
         return self.goal_of({it.function for it in self.failures} - set(self.waits) - own)
 
     def read(self, body: Body, group: list[Body]) -> Verdict:
         """The verdict on a body that was tried in this group. `again` notes with what it may not be tried."""
-        goal = self.goal_of(body.functions)
+        goal = self.goal_of(body.told())
         if goal:
             return Verdict("refused", goal)
         return self._put_off(body, group) if len(group) > 1 else self._read_alone()
@@ -113,8 +113,8 @@ class Report:
     def _put_off(self, body: Body, group: list[Body]) -> Verdict:
         # What stands near an error of the front end, or waits for no other, or seems proved, is tried alone.
         at_fault = {(path, line + by) for path, line, _ in self.front for by in range(-12, 12)}
-        near = [it for it in group if at_fault & set(it.lines)] or group
-        waits = self.reached(body.functions)
+        near = [it for it in group if at_fault & it.stands] or group
+        waits = self.reached(body.told())
         if self.front:
             body.tries += TRIES if body in near else 0
         else:

@@ -132,9 +132,9 @@ class Reports(unittest.TestCase):
     def test_a_body_that_does_not_compile_is_bad_and_spoils_no_other(self):
         text = "src/table.rt:25:5: error[types]: a number is wanted here\n"
         lone = a_body("one", "made")
-        lone.lines = {("src/table.rt", at("Table { room: 0 }")): "    true"}
+        lone.stands = {("src/table.rt", at("Table { room: 0 }") + 1)}
         far = a_body("two", "is_full")
-        far.lines = {("src/table.rt", at("len == ROOM")): "        false"}
+        far.stands = {("src/table.rt", at("len == ROOM") + 1)}
         self.assertEqual(Report("held", 1, text).read(lone, [lone]).kind, "bad")
         report = Report("held", 1, text)
         self.assertEqual(report.read(lone, [lone, far]), ("again", "alone"))

@@ -5,7 +5,9 @@ from __future__ import annotations
 import hashlib
 import os
 import shutil
+import subprocess
 import sys
+import tempfile
 from importlib import machinery, util
 from pathlib import Path
 from typing import Any
@@ -42,3 +44,18 @@ def sum_of(rt: Any, crate: Any, known: dict[str, str]) -> str:
         parts += [sum_of(rt, dep, known).encode() for dep in crate.deps]
         known[crate.name] = hashlib.sha256(repr(parts).encode()).hexdigest()
     return known[crate.name]
+
+
+def checked(rt: Any, crate: Any, texts: dict[str, str], flags: list[str], over: str) -> subprocess.CompletedProcess[str]:
+    """Checks a copy of a crate with these texts in place of its own, or beside them, over what earlier checks proved."""
+    with tempfile.TemporaryDirectory(prefix=f"wrong-{os.getpid()}-") as room:
+        for part in rt.rtlib.PARTS:
+            if Path(crate.folder, part).is_dir():
+                shutil.copytree(Path(crate.folder, part), Path(room, part))
+        for path, text in texts.items():
+            place = Path(room, path)
+            place.parent.mkdir(parents=True, exist_ok=True)
+            place.write_text(text, "utf-8")
+        words = [rt.rtlib.RATTLE, "check", *crate.words(flags, keeps=False), "--incremental", over]
+        how = {"stdin": subprocess.DEVNULL, "stdout": subprocess.PIPE, "stderr": subprocess.STDOUT, "errors": "replace"}
+        return subprocess.run([*rt.rtlib.guarded(), *words], cwd=room, text=True, **how)
