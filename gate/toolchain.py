@@ -33,17 +33,18 @@ def crates(rt: Any) -> dict[str, Any]:
     return {it.name: it for it in rt.rtlib.crates_below(os.getcwd())}
 
 
-def sum_of(rt: Any, crate: Any, known: dict[str, str]) -> str:
-    """A sum of the toolchain, and of what a crate and those below it are made of. The sums that are known are kept, since
-    many crates stand on the same ones."""
+def sum_of(rt: Any, crate: Any, known: dict[str, str], reading: int, edit: Path) -> str:
+    """A sum of all that a verdict on a wrong body rests on: how it is read, the body, its crate's text, the toolchain, and
+    the libraries below as they were built. The sums of crates that are known are kept."""
     if crate.name not in known:
-        parts = [Path(rt.KIT, "KIT-ID").read_bytes(), repr(crate.said).encode()]
+        parts = [Path(rt.KIT, "KIT-ID").read_bytes(), repr((crate.said, sorted(rt.Crate.allowed))).encode()]
         for folder in ("src", "specs", "proofs"):
             for file in sorted(it for it in Path(crate.folder, folder).rglob("*") if it.is_file()):
                 parts += [str(file.relative_to(crate.folder)).encode(), file.read_bytes()]
-        parts += [sum_of(rt, dep, known).encode() for dep in crate.deps]
+        # (a library's other files are held to the sums in this one)
+        parts += [part for dep in crate.below() for part in (dep.name.encode(), Path(dep.rlib, "format").read_bytes())]
         known[crate.name] = hashlib.sha256(repr(parts).encode()).hexdigest()
-    return known[crate.name]
+    return hashlib.sha256(repr((reading, known[crate.name], edit.name, edit.read_bytes())).encode()).hexdigest()[:32]
 
 
 def checked(rt: Any, crate: Any, texts: dict[str, str], flags: list[str], over: str) -> subprocess.CompletedProcess[str]:
