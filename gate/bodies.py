@@ -18,6 +18,8 @@ HEAD = re.compile(r" *(.*\bfn |\)|where\b)(.*[^{])?$")
 CONSTANT = re.compile(r"\s*(?:pub(?:\([^)]*\))? )?(?:const |static )(\w+):")
 # An import, or another constant, says nothing by itself.
 NO_USE = re.compile(r"\s*(?:pub(?:\([^)]*\))? )?(?:use|const|static|ghost use) ")
+NO_BODY = re.compile(r"ghost use ")
+LAWS = re.compile(r"src/laws(/\w+)?\.rt$")
 
 
 def head_of(lines: list[str], at: int) -> int | None:
@@ -29,6 +31,16 @@ def head_of(lines: list[str], at: int) -> int | None:
             opens = next((it for it in edges if not HEAD.match(lines[it])), head)
             closes = next((it for it in edges if it > opens), -1)
             return head if lines[opens].endswith("{") and opens < at < closes else None
+    return None
+
+
+def law_of(lines: list[str], at: int) -> int | None:
+    """The line on which the function begins in whose clauses a line stands. It goes by the layout of rt fmt."""
+    for head in range(at, -1, -1):
+        if FN.match(lines[head]):
+            return head
+        if re.match(r"[{}]", lines[head]):
+            break
     return None
 
 
@@ -121,16 +133,26 @@ def read_body(rt: Any, crate: Any, edit: Path) -> Body:
         for at, new in enumerate(text.split("\n")):
             if was[at] != new:
                 body.lines[path, at] = new
-                head = head_of(was, at) if path.startswith("src/") else None
-                users = users_of(crate, was[at]) if head is None else set()
-                body.places |= {(path, head)} if head is not None else users or {None}
-                body.is_constant |= bool(users)
-                if head is not None:
-                    body.function = function_at(path, was, head)
+                note_place(crate, body, path, was, at)
     body.tries = TRIES if why or None in body.places else 0
     if body.is_constant or len(body.places) > 1 or (body.function and not body.function.can_be_copied()):
         body.function = None
     return body
+
+
+def note_place(crate: Any, body: Body, path: str, lines: list[str], at: int) -> None:
+    """Notes in which function a changed line stands, if it stands in one. A law has no body that could be wrong: its
+    clauses are changed. An import changes nothing by itself."""
+    if NO_BODY.match(lines[at]):
+        return
+    head = head_of(lines, at) if path.startswith("src/") else None
+    if head is None and LAWS.match(path):
+        head = law_of(lines, at)
+    users = users_of(crate, lines[at]) if head is None else set()
+    body.places |= {(path, head)} if head is not None else users or {None}
+    body.is_constant |= bool(users)
+    if head is not None and not LAWS.match(path):
+        body.function = function_at(path, lines, head)
 
 
 def texts_of(crate: Any, group: list[Body]) -> dict[str, str]:

@@ -125,7 +125,7 @@ pub fn few_segments_are_near()
 /// now, reads from what was written at its peer.
 pub fn what_is_read_reads_from_a_peer()
     ensures { (setting : Setting) (history : List Happening) (at : Address) (id count : ℕ) (d : Done (List Item))
-        → AllTimely setting history → AllByRecursion (HappensHere setting) history → setting.ours at ≡ true
+        → AllTimely setting history → AllByRecursion (HappensHere setting) history
         → read_at setting.numbers ((after setting history).tables at) count
         (by_id ((after setting history).tables at) id) ≡ Ok d
         → ReadsInOrder (after setting (Reads at id count ∷ history))

@@ -1,5 +1,5 @@
 -- What is read at a node reads from the peer.
-use Rattle.std.proofs.Common.{◌≡◌, ℕ, Bool, true, List, ◌∷◌, Option, Some, None, Result, Ok, Err, refl, ap, subst, ◌∙◌}
+use Rattle.std.proofs.Common.{◌≡◌, ℕ, List, ◌∷◌, Option, Some, None, Result, Ok, Err, refl, subst, ◌∙◌}
 use Rattle.std.specs.List.{AllByRecursion}
 use Rattle.at_ddp.specs.declared.address.Address.{Address}
 use Rattle.at_adsp_end.specs.Fault.{number_of}
@@ -23,13 +23,12 @@ use Rattle.at_node.specs.Nodes.{NodeState, called}
 use Rattle.at_stream_socket.specs.Calls as sockets
 use Rattle.at_stream_socket.specs.Sockets.{streams_at, told_read}
 use Rattle.at_steps.specs.StreamHappenings.{Stands}
-use Rattle.at_steps.proofs.Protocols.Streams.Moves.{its_own}
 use Rattle.at_steps.proofs.Protocols.Streams.Ours.{all_ours}
 
 -- what is read reads from a peer
 abbrev pub ReadsFromPeer : Type 0
 ReadsFromPeer = (setting : Setting) (history : List Happening) (at : Address) (id count : ℕ) (d : Done (List Item))
-    → AllTimely setting history → AllByRecursion (HappensHere setting) history → setting.ours at ≡ true →
+    → AllTimely setting history → AllByRecursion (HappensHere setting) history →
     read_at setting.numbers ((after setting history).tables at) count (by_id ((after setting history).tables at) id)
     ≡ Ok d → ReadsInOrder (after setting (Reads at id count ∷ history))
     → ReadsWith (streams (after setting history)) at id d.answer
@@ -66,5 +65,5 @@ read_with A law setting history n id count items st told order =
     go (Err fault) e h = absurd (no_read A (number_of fault) items h)
     go (Ok d) e h =
         subst (ReadsWith (streams (after setting history)) at id) (items_same d.answer items h)
-        (law setting history at id count d st.timely (all_ours n.seat.net setting history st.ours st.here)
-        (ap (λ (f : Address → Bool). f at) st.ours ∙ its_own A setting history n st) (same ∙ e) order)
+        (law setting history at id count d st.timely (all_ours n.seat.net setting history st.ours st.here) (same ∙ e)
+        order)
