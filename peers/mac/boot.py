@@ -22,8 +22,8 @@ LETTER = b"%!PS-Adobe-3.0\nshowpage\n"
 # The functions of the Printer Access Protocol, its connection, and the packets of a response.
 OPEN, OPEN_REPLY, SEND_DATA, DATA, TICKLE, CLOSE, CLOSE_REPLY, SEND_STATUS, STATUS = range(1, 10)
 CONNECTION, QUANTUM = 9, 8
-# The data that the router sends of itself come after so many seconds at most.
-ADVERTISED = 11.0
+# What the router sends of itself each ten seconds comes after so many at most.
+ADVERTISED = 12.0
 
 
 def user_bytes(connection: int, function: int, rest: int = 0) -> bytes:

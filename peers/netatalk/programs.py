@@ -13,7 +13,7 @@ import tempfile
 import threading
 import time
 from pathlib import Path
-from typing import Dict, List, Optional, TextIO, Tuple
+from typing import Dict, List, TextIO, Tuple
 
 PROGRAMS = Path(os.environ.get("NETATALK_PROGRAMS", ""))
 PRINTER = Path(__file__).resolve().parents[2] / "examples" / "python" / "printer.py"
@@ -135,17 +135,20 @@ class Cable:
         program = str(PROGRAMS / words[0])
         return self.start(program, *words[1:], PEER_NET=str(self._network), **environment)
 
-    def run(self, *words: str, data: Optional[bytes] = None) -> Tuple[int, str]:
+    def run(self, *words: str) -> Tuple[int, str]:
         """The status of one of netatalk's clients, and what it prints on both outputs."""
         environment = {**os.environ, "PEER_NET": str(self._network)}
         ran = subprocess.run(
-            [str(PROGRAMS / words[0]), *words[1:]], input=data or b"", timeout=90, env=environment,
-            stdout=subprocess.PIPE, stderr=subprocess.STDOUT, cwd=self._folder.name,
+            [str(PROGRAMS / words[0]), *words[1:]], timeout=90, env=environment,
+            stdin=subprocess.DEVNULL, stdout=subprocess.PIPE, stderr=subprocess.STDOUT,
+            cwd=self._folder.name,
         )
         return ran.returncode, ran.stdout.decode("latin-1")
 
     def close(self) -> None:
         """Ends all that runs."""
+        for started in self._started:
+            started.process.terminate()
         for started in self._started:
             started.end()
         self._folder.cleanup()
