@@ -202,7 +202,7 @@ def run(words: argparse.Namespace) -> int:
     words.folder.mkdir(parents=True, exist_ok=True)
     description = Description() if words.ppd is None else description_of(words.ppd)
     runner = None if words.run is None else Runner(words.run, tell)
-    with station_of(words) as (number, station):
+    with station_of(words, tell) as (number, station):
         printer = Printer(station, words.folder, runner, description)
         if not printer.claim(words.name):
             tell(f"another node has the name {words.name}")

@@ -27,6 +27,8 @@ from printer import Printer  # noqa: E402
 
 JOB = os.urandom(135_091)
 PAPER = Find("Paper", "LaserWriter", "*", 7, 129, 0)
+# What the printer says first on standard error.
+WHERE = "node 7 of network 10\n"
 
 
 class Starts(unittest.TestCase):
@@ -138,7 +140,8 @@ class Ends(Starts):
         told = "the printer closed the connection before it had all"
         self.assertEqual(self.print_until(printer, signal.SIGTERM), told)
         _, errors = printer.communicate(timeout=10)
-        self.assertRegex(errors, r"^the printer is ended, and its job is dropped: \d+ bytes from")
+        dropped = r"the printer is ended, and its job is dropped: \d+ bytes from"
+        self.assertRegex(errors, f"^{WHERE}{dropped}")
         self.assertEqual((printer.returncode, self.names("")), (0, []))
 
     def test_two_printers_of_one_folder_and_one_that_starts_again_lose_no_job(self) -> None:
@@ -169,7 +172,7 @@ class Ends(Starts):
         printer.terminate()
         _, errors = printer.communicate(timeout=10)
         path = self.folder / "job-0001.ps"
-        wanted = f"{path}: the command ended with status 1, and the file is kept\n"
+        wanted = f"{WHERE}{path}: the command ended with status 1, and the file is kept\n"
         self.assertEqual((errors, self.names("")), (wanted, ["job-0001.ps"]))
         self.assertEqual(out.read_bytes(), b"a short job" + path.read_bytes())
 
