@@ -23,6 +23,9 @@ import connection  # noqa: E402
 import pap  # noqa: E402
 import printer as printing  # noqa: E402
 
+# The seconds that a test may take.
+PATIENCE = 30.0
+
 
 class Clock:
     """The time, and so many seconds more."""
@@ -42,7 +45,7 @@ class ByHand(unittest.TestCase):
         self.seven = place(MemoryCable(), 7)
         self.five = place(MemoryCable(), 5)
         self.printer = printing.Printer(self.seven.station, Path(self.folder.name))
-        self.clock = Clock()
+        self.clock, self.end = Clock(), time.monotonic() + PATIENCE
         # What is said on both outputs is read by the tests that look for it.
         self.said, self.told = io.StringIO(), io.StringIO()
         with contextlib.ExitStack() as patches:
@@ -57,7 +60,8 @@ class ByHand(unittest.TestCase):
         self.folder.cleanup()
 
     def settle(self) -> None:
-        """Hands on what both sent, until nothing is sent."""
+        """Hands on what both sent, until nothing is sent. A test that comes to no end fails."""
+        self.assertLess(time.monotonic(), self.end, "the test comes to no end")
         pairs = ((self.five, self.seven), (self.seven, self.five))
         for each in (self.five, self.seven):
             Station.step(each.station, 0)

@@ -58,6 +58,36 @@ class Reading(unittest.TestCase):
         return answer
 
 
+class Outboxes(unittest.TestCase):
+    def setUp(self) -> None:
+        self.outbox = Outbox()
+
+    def test_what_fits_goes_in_one_answer_up_to_the_end_of_a_file(self) -> None:
+        for data in (b"ab", b"", b"c"):
+            self.outbox.say(data)
+        self.outbox.end()
+        self.outbox.say(b"d")
+        self.outbox.end()
+        self.outbox.end()
+        self.assertEqual(self.outbox.waits(), 4)
+        said = [self.outbox.take(9) for _ in range(4)]
+        self.assertEqual(said, [(b"abc", True), (b"d", True), (b"", True), None])
+        self.assertTrue(self.outbox.is_empty())
+
+    def test_what_does_not_fit_waits_and_the_end_is_behind_it(self) -> None:
+        self.outbox.say(b"abcd")
+        self.outbox.end()
+        said = [self.outbox.take(2) for _ in range(3)]
+        self.assertEqual(said, [(b"ab", False), (b"cd", True), None])
+
+    def test_what_is_alone_shares_its_answer_with_nothing(self) -> None:
+        self.outbox.say(b"a")
+        self.outbox.say(b"b", is_alone=True)
+        self.outbox.say(b"c")
+        said = [self.outbox.take(9) for _ in range(4)]
+        self.assertEqual(said, [(b"a", False), (b"b", False), (b"c", False), None])
+
+
 class Jobs(Reading):
     def test_each_document_is_a_job(self) -> None:
         self.read(b"%!PS-Adobe-3.0\nfirst\n", b"\0second", b"%")

@@ -153,12 +153,10 @@ class Numbers(ByHand):
         self.assertIsNone(self.ask("2A030004"))
         self.assertEqual(self.ask("2A030002"), "2A040100:-")
 
-    def test_the_number_0_is_never_wrong(self) -> None:
-        self.assertEqual(self.ask("2A030000"), "2A040100:-")
-        self.data("2A040100:64")
-        self.assertEqual(self.ask("2A030000"), "2A040100:-")
-        self.data("2A040100:65")
-        self.assertEqual(self.ask("2A030001"), "2A040100:-")
+    def test_the_number_0_is_never_wrong_and_is_not_counted(self) -> None:
+        for number in ("0000", "0001", "0000", "0002"):
+            self.assertEqual(self.ask(f"2A03{number}"), "2A040100:-")
+            self.data("2A040100:64")
 
     def test_who_asks_anew_takes_the_place_of_the_request_that_waits(self) -> None:
         self.ask("2A030001")
@@ -186,6 +184,13 @@ class Records(ByHand):
         self.open()
         for _ in range(100):
             self.ask("2A050000", mode="alo")
+            self.give_up()
+        self.assert_none_dropped()
+
+    def test_who_asks_anew_again_and_again_leaves_nothing(self) -> None:
+        self.open()
+        for _ in range(100):
+            self.assertIsNone(self.ask("2A030001"))
             self.give_up()
         self.assert_none_dropped()
 

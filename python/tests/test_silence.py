@@ -149,11 +149,15 @@ class Losses(ByHand):
     def print(self, until: int) -> None:
         """Prints, and lets pass what is sent once so many packets were lost."""
         def live() -> None:
-            self.live()
             self.loses = self.lost < until
+            self.live()
 
         self.print_by(live)
         self.assertEqual(self.files(), ["job-0001.ps"])
+
+    def test_what_is_asked_before_the_reply_is_read_is_answered_at_once(self) -> None:
+        self.print(0)
+        self.assertEqual(self.numbers, ["0001", "0002", "0003", "0004", "0005", "0006"])
 
     def test_a_transaction_whose_answers_were_lost_is_answered_again(self) -> None:
         self.print(40)
