@@ -9,7 +9,7 @@ from types import SimpleNamespace
 HERE = Path(__file__).resolve().parent
 sys.dont_write_bytecode = True
 sys.path.insert(0, str(HERE))
-from bodies import Body, head_of, texts_of, users_of  # noqa: E402
+from bodies import Body, head_of, law_of, note_place, texts_of, users_of  # noqa: E402
 from copies import function_at, lines_of_copy, proofs_of_copy  # noqa: E402
 
 SOURCE = """const ROOM: usize = 8;
@@ -44,6 +44,23 @@ PROOF = """use Rattle.held.proofs.table.Table.+count.Goals as goal
 pub returns : goal.decreases-count
 returns c = c.count.ensures
 """
+
+
+LAWS = """ghost use Rattle.held.specs.Tables.{is_table};
+
+/// A table stays one.
+pub fn tables_stay_tables()
+    ensures grown { (t : Table) → is_table t
+        → is_table (grown t) }
+{}
+
+/// And so on.
+pub fn the_next()
+    ensures { true ≡ true }
+{
+    tables_stay_tables();
+}
+""".split("\n")
 
 
 def at(words):
@@ -120,6 +137,21 @@ class Held(unittest.TestCase):
         self.assertEqual(users_of(self.crate, "const ROOM: usize = 9;"), {("src/table.rt", at("pub fn is_full"))})
         self.assertEqual(users_of(self.crate, "const OTHER: usize = 9;"), set())
         self.assertEqual(users_of(self.crate, "struct ROOM;"), set())
+
+    def test_a_clause_of_a_law_stands_in_the_law(self):
+        first, second = LAWS.index("pub fn tables_stay_tables()"), LAWS.index("pub fn the_next()")
+        for words, head in (("ensures grown", first), ("(grown t)", first), ("true ≡ true", second), ("/// And so", None)):
+            line = next(number for number, it in enumerate(LAWS) if words in it)
+            self.assertEqual(law_of(LAWS, line), head, words)
+
+    def test_a_wrong_law_is_tried_where_its_clause_stands_and_an_import_nowhere(self):
+        body = Body("one")
+        for line in (0, LAWS.index("        → is_table (grown t) }")):
+            note_place(self.crate, body, "src/laws/tables.rt", LAWS, line)
+        self.assertEqual(body.places, {("src/laws/tables.rt", LAWS.index("pub fn tables_stay_tables()"))})
+        self.assertIsNone(body.function)
+        note_place(self.crate, body, "src/table.rt", LINES, at("ensures"))
+        self.assertIn(None, body.places)
 
     def test_no_copy_is_made_of_a_function_whose_constant_is_wrong(self):
         constant = Body("one", places={("src/table.rt", at("pub fn is_full"))}, is_constant=True)
