@@ -1,5 +1,6 @@
-"""Which wrong bodies the prover refused, as gate/refused.txt has it: a body, a sum of all that its verdict rests on, and the
-verdict, a line each. The file is committed, so that a body is tried again only where its verdict may be another."""
+"""Which wrong bodies the prover refused, as gate/refused.txt has it: a body, a sum of all that its verdict rests on, the
+verdict and its words, a line each. The file is committed, so that a body is tried again only where its verdict may be
+another."""
 
 from __future__ import annotations
 
@@ -16,7 +17,9 @@ from report import Verdict
 READING = 2
 # One in so many is drawn.
 SHARE = 20
-HEAD = "# The wrong bodies that were refused; gate/wrong writes this. A body, the sum that it was refused at, and why.\n"
+# The verdicts that are noted.
+PASSED = ("refused", "name-only")
+HEAD = "# The wrong bodies that were refused; gate/wrong writes this. A body, the sum of what it was tried over, and how.\n"
 
 
 def drawn(names: list[str], word: str | None) -> set[str]:
@@ -33,14 +36,13 @@ class Refused:
 
     def __init__(self, rt: Any, file: Path, again: set[str]) -> None:
         self.rt, self.file, self.again = rt, file, again
-        self.lines: dict[str, tuple[str, str]] = {}
+        self.lines: dict[str, tuple[str, Verdict]] = {}
         self.keys: dict[str, str] = {}
         self.lock, self.sums = threading.Lock(), {}
         for line in file.read_text("utf-8").splitlines() if file.is_file() else ():
-            name, _, rest = line.partition(" ")
-            key, _, words = rest.partition(" ")
-            if not name.startswith("#"):
-                self.lines[name] = (key, words)
+            words = line.split(" ", 3)
+            if len(words) == 4 and words[2] in PASSED:
+                self.lines[words[0]] = (words[1], Verdict(words[2], words[3]))
 
     def __enter__(self) -> Refused:
         return self
@@ -51,7 +53,8 @@ class Refused:
     def write(self) -> None:
         """Writes the file, if there is anything to write. A body that is gone has no line any more."""
         there = {f"{edit.parts[-3]}/{edit.stem}" for edit in Path("crates").glob("*/wrong/*.edit")}
-        rows = [f"{name} {' '.join(line)}".rstrip() for name, line in sorted(self.lines.items()) if name in there]
+        rows = [f"{name} {key} {verdict.kind} {verdict.words}" for name, (key, verdict) in sorted(self.lines.items())
+                if name in there]
         if self.file.parent.is_dir():
             self.file.write_text(HEAD + "".join(f"{it}\n" for it in rows), "utf-8")
 
@@ -60,14 +63,14 @@ class Refused:
         name = f"{crate.name}/{edit.stem}"
         with self.lock:
             self.keys[name] = toolchain.sum_of(self.rt, crate, self.sums, READING, edit)
-        key, words = self.lines.get(name, ("", ""))
-        return Verdict("refused", words) if key == self.keys[name] and name not in self.again else None
+        key, verdict = self.lines.get(name, ("", None))
+        return verdict if key == self.keys[name] and name not in self.again else None
 
     def put(self, crate: Any, edit: str, verdict: Verdict) -> None:
         """Notes a verdict, or that there is none that stays."""
         name = f"{crate.name}/{edit}"
         with self.lock:
             self.lines.pop(name, None)
-            if verdict.kind == "refused":
-                self.lines[name] = (self.keys[name], verdict.words)
+            if verdict.kind in PASSED:
+                self.lines[name] = (self.keys[name], verdict)
             self.write()

@@ -139,7 +139,7 @@ class Trials(unittest.TestCase):
         """A line that says that a right body was refused, at the sum that it has, is found out by --anew."""
         noted = self.top / "gate" / "refused.txt"
         before = noted.read_text()
-        noted.write_text(before + f"guests/houses_by_another_way {self.sum('houses_by_another_way')} by hand\n")
+        noted.write_text(before + f"guests/houses_by_another_way {self.sum('houses_by_another_way')} refused by hand\n")
         again, _ = self.trial()
         self.assertEqual(again.stdout.count("refused (noted)"), 5)
         self.assertIn("houses_by_another_way: refused (noted): by hand", again.stdout)
